@@ -1,0 +1,5 @@
+pub mod Clients
+pub mod Versions
+pub mod Outcomes
+pub mod Ranges
+pub mod Spelling

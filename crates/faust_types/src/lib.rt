@@ -1,0 +1,34 @@
+// The values of the protocol: versions and their order, operations, messages, outcomes, and the small lists
+// that they are made of. A message is seen by contracts as a plain value, a list as a list, and a version
+// as two lists, one of timestamps and one of digests, of which a digest is absent exactly at timestamp 0.
+//
+// `specs/Versions.antt` comes first: the order of versions, and what a step changes. `specs/Clients.antt` says
+// what a client's number is, `specs/Ranges.antt` which messages are in range for n clients, and
+// `specs/Spelling.antt` the bytes of versions and of peer messages, which the wire and the tags share.
+//
+// No message is read or written here, and nothing is hashed.
+#![tactic(auto)]
+
+mod config;
+mod limits;
+mod message;
+mod operation;
+mod out_of_memory;
+mod outcome;
+mod sequence;
+mod status;
+mod version;
+
+pub use config::Config;
+pub use limits::{
+    MAX_CLIENTS, MAX_KEY_LEN, MAX_MESSAGE_LEN, MAX_PENDING, MAX_TIMESTAMP, MAX_VALUE_LEN,
+};
+pub use message::{
+    Commit, Known, Mem, Message, Peer, PeerMessage, Proofs, ReadPart, Reply, Submit, Tuple, Tuples,
+};
+pub use operation::{Answer, Kind, Names, Notice, OpName, Operation};
+pub use out_of_memory::OutOfMemory;
+pub use outcome::{Clients, Cut, Outcome, Post, Posts};
+pub use sequence::{Bytes, Numbers, Sequence};
+pub use status::Status;
+pub use version::{Compared, Digest, Tag, Version};

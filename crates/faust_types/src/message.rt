@@ -1,0 +1,232 @@
+ghost use Rattle.std.specs.Prelude.{◌≡◌, IfOk};
+
+use crate::operation::Kind;
+use crate::out_of_memory::OutOfMemory;
+use crate::sequence::{Bytes, Sequence};
+use crate::version::{Tag, Version};
+
+/// A version with the commit tag of its maker. The initial version has maker 0 and a tag of zero bytes.
+#[derive(Debug, Drop)]
+pub struct Known {
+    pub maker: u8,
+    pub version: Version,
+    pub tag: Tag,
+}
+
+/// A submitted operation that isn't committed, with the submit tag of its client.
+#[derive(Clone, Copy, Debug, PartialEq, Eq)]
+pub struct Tuple {
+    pub client: u8,
+    pub kind: Kind,
+    pub register: u8,
+    pub tag: Tag,
+}
+
+/// Submitted operations in the order in which they came.
+pub type Tuples = Sequence<Tuple>;
+
+/// For each client its proof tag or none.
+pub type Proofs = Sequence<Option<Tag>>;
+
+/// What the server holds of a register: the timestamp of its owner's last operation, the value last written or
+/// none, and the owner's data tag over both.
+#[derive(Debug, Drop)]
+pub struct Mem {
+    pub t: u64,
+    pub value: Option<Bytes>,
+    pub tag: Tag,
+}
+
+/// What a reply adds for a read: the last version that the register's owner committed, and the memory of the
+/// register or nothing.
+#[derive(Debug, Drop)]
+pub struct ReadPart {
+    pub register: u8,
+    pub version: Known,
+    pub mem: Option<Mem>,
+}
+
+/// An operation handed to the server: number `t` of its client. A write has a value, a read has none.
+#[derive(Debug, Drop)]
+pub struct Submit {
+    pub kind: Kind,
+    pub register: u8,
+    pub t: u64,
+    pub value: Option<Bytes>,
+    pub submit_tag: Tag,
+    pub data_tag: Tag,
+}
+
+/// The server's answer: the last committed version of client `c`, the operations pending since, the proofs, and
+/// for a read its part.
+#[derive(Debug, Drop)]
+pub struct Reply {
+    pub c: u8,
+    pub version: Known,
+    pub pending: Tuples,
+    pub proofs: Proofs,
+    pub read: Option<ReadPart>,
+}
+
+/// A completed operation: its version, with the commit tag and the proof tag over the own digest.
+#[derive(Debug, Drop)]
+pub struct Commit {
+    pub version: Version,
+    pub commit_tag: Tag,
+    pub proof_tag: Tag,
+}
+
+/// What one client says to another: a question for the greatest known version, such a version, or the number,
+/// 1 to 15, of the check that broke.
+#[derive(Debug, Drop)]
+pub enum Peer {
+    Probe,
+    Version(Known),
+    Failure(u8),
+}
+
+/// A message between two clients with the sender's tag.
+#[derive(Debug, Drop)]
+pub struct PeerMessage {
+    pub from: u8,
+    pub to: u8,
+    pub peer: Peer,
+    pub tag: Tag,
+}
+
+/// Any message. `Hello` names the client of a connection.
+#[derive(Debug, Drop)]
+pub enum Message {
+    Submit(Submit),
+    Reply(Reply),
+    Commit(Commit),
+    Peer(PeerMessage),
+    Hello(u8),
+}
+
+impl Known {
+    /// An equal version with its tag, of its own.
+    pub fn copy(&self) -> Result<Known, OutOfMemory>
+        ensures { IfOk result (λ copy. copy ≡ self.now) }
+    {
+        Ok(Known {
+            maker: self.maker,
+            version: self.version.copy()?,
+            tag: self.tag,
+        })
+    }
+}
+
+impl Mem {
+    /// An equal memory of its own.
+    pub fn copy(&self) -> Result<Mem, OutOfMemory>
+        ensures { IfOk result (λ copy. copy ≡ self.now) }
+    {
+        Ok(Mem {
+            t: self.t,
+            value: copy_of_value(&self.value)?,
+            tag: self.tag,
+        })
+    }
+}
+
+fn copy_of_value(value: &Option<Bytes>) -> Result<Option<Bytes>, OutOfMemory>
+    ensures { IfOk result (λ copy. copy ≡ value.now) }
+{
+    match value {
+        Some(bytes) => Ok(Some(bytes.copy()?)),
+        None => Ok(None),
+    }
+}
+
+impl ReadPart {
+    /// An equal part of its own.
+    pub fn copy(&self) -> Result<ReadPart, OutOfMemory>
+        ensures { IfOk result (λ copy. copy ≡ self.now) }
+    {
+        let mem = match &self.mem {
+            Some(mem) => Some(mem.copy()?),
+            None => None,
+        };
+        Ok(ReadPart {
+            register: self.register,
+            version: self.version.copy()?,
+            mem,
+        })
+    }
+}
+
+impl Submit {
+    /// An equal message of its own.
+    pub fn copy(&self) -> Result<Submit, OutOfMemory>
+        ensures { IfOk result (λ copy. copy ≡ self.now) }
+    {
+        Ok(Submit {
+            kind: self.kind,
+            register: self.register,
+            t: self.t,
+            value: copy_of_value(&self.value)?,
+            submit_tag: self.submit_tag,
+            data_tag: self.data_tag,
+        })
+    }
+}
+
+impl Reply {
+    /// An equal message of its own.
+    pub fn copy(&self) -> Result<Reply, OutOfMemory>
+        ensures { IfOk result (λ copy. copy ≡ self.now) }
+    {
+        let read = match &self.read {
+            Some(part) => Some(part.copy()?),
+            None => None,
+        };
+        Ok(Reply {
+            c: self.c,
+            version: self.version.copy()?,
+            pending: self.pending.copy()?,
+            proofs: self.proofs.copy()?,
+            read,
+        })
+    }
+}
+
+impl Commit {
+    /// An equal message of its own.
+    pub fn copy(&self) -> Result<Commit, OutOfMemory>
+        ensures { IfOk result (λ copy. copy ≡ self.now) }
+    {
+        Ok(Commit {
+            version: self.version.copy()?,
+            commit_tag: self.commit_tag,
+            proof_tag: self.proof_tag,
+        })
+    }
+}
+
+impl Peer {
+    /// An equal content of its own.
+    pub fn copy(&self) -> Result<Peer, OutOfMemory>
+        ensures { IfOk result (λ copy. copy ≡ self.now) }
+    {
+        match self {
+            Peer::Probe => Ok(Peer::Probe),
+            Peer::Version(known) => Ok(Peer::Version(known.copy()?)),
+            Peer::Failure(check) => Ok(Peer::Failure(*check)),
+        }
+    }
+}
+
+impl PeerMessage {
+    /// An equal message of its own.
+    pub fn copy(&self) -> Result<PeerMessage, OutOfMemory>
+        ensures { IfOk result (λ copy. copy ≡ self.now) }
+    {
+        Ok(PeerMessage {
+            from: self.from,
+            to: self.to,
+            peer: self.peer.copy()?,
+            tag: self.tag,
+        })
+    }
+}
