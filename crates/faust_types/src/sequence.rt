@@ -1,9 +1,8 @@
 ghost use Rattle.std.specs.Prelude.{◌≡◌, ℕ, List, [], ◌∷◌, ◌++◌, ◌↔◌, length, take, IsTrue, OnOk, OnErr, IfOk};
 
+use crate::out_of_memory::OutOfMemory;
 use std::alloc::Global;
 use std::marker::Model;
-
-use crate::out_of_memory::OutOfMemory;
 
 /// A list on the heap, seen by contracts as a list: its room and its place in memory are no part of its value.
 #[derive(Debug, Drop)]

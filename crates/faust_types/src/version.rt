@@ -3,11 +3,10 @@ ghost use Rattle.faust_types.specs.Clients.{IsClientCount, IsClient};
 ghost use Rattle.faust_types.specs.Versions.{Vector, IsVersion, IsAtMost, IsOrder, clients_of, timestamp_at, digest_at, initial, with_entry, stepped, is_at_most, compared, is_initial, is_same_digest, is_entry_at_most};
 ghost use Rattle.faust_types.specs.Spelling.{be64, optional, version_bytes};
 
-use std::alloc::Global;
-use std::marker::Model;
-
 use crate::out_of_memory::OutOfMemory;
 use crate::sequence::Bytes;
+use std::alloc::Global;
+use std::marker::Model;
 
 /// A digest of SHA-256.
 pub type Digest = [u8; 32];
