@@ -17,6 +17,8 @@ mod out_of_memory;
 mod outcome;
 mod sequence;
 mod status;
+#[cfg(test)]
+mod tests;
 mod version;
 
 pub use config::Config;
