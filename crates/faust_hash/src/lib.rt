@@ -1,0 +1,17 @@
+//! The digests and tags of the protocol, over SHA-256: `hmac` gives a message's tag, `same` compares two
+//! tags, `chain` gives the digest of a list of clients step by step, and `value_digest` that of a value.
+//! Each call takes no memory, always succeeds, and returns exactly what a definition in `specs/` says: read
+//! `Hmac` first, then `Chain`. `laws` states what those definitions keep. That SHA-256 has no collisions is
+//! no promise of this crate.
+#![tactic(auto)]
+
+mod compare;
+mod digests;
+mod keyed;
+pub mod laws;
+#[cfg(test)]
+mod tests;
+
+pub use compare::same;
+pub use digests::{chain, value_digest};
+pub use keyed::hmac;
