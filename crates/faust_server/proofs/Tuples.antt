@@ -1,0 +1,161 @@
+-- Lists of tuples: how many of one client they have, and how long they can be.
+use Rattle.std.proofs.Common.{◌≡◌, ℕ, ◌+◌, ◌<◌, ◌≤◌, ◌==◌, zero, suc, Bool, true, false, not, if◌then◌else◌, Option, Some, None, List, [], ◌∷◌, ◌++◌, length, filter, drop, position, refl, sym, ap, ◌∙◌, subst, inl, inr, arith}
+use Rattle.std.proofs.lemmas.Bool.{cond-true, cond-false, eq-eqb, ne_eqb, eqb-true, eqb-false, cases_eq, cases_Bool}
+use Rattle.std.specs.List.{AllByRecursion}
+use Rattle.faust_types.specs.Clients.{IsClient}
+use Rattle.faust_types.specs.Ranges.{IsTupleFor}
+use Rattle.faust_types.specs.declared.message.Tuple.{Tuple}
+use Rattle.faust_server.specs.Rows.{without, behind, behind_place}
+use Rattle.faust_server.specs.States.{tuples_of}
+
+-- a tuple of the client counts, another doesn't
+pub tuples_of-own : (k : ℕ) (tuple : Tuple) (rest : List Tuple) → tuple.client ≡ k → tuples_of k (tuple ∷ rest) ≡ suc (tuples_of k rest)
+tuples_of-own k tuple rest e = cond-true _ _ _ (eq-eqb _ _ e)
+
+pub tuples_of-other : (k : ℕ) (tuple : Tuple) (rest : List Tuple) → (tuple.client ≡ k → ⊥) → tuples_of k (tuple ∷ rest) ≡ tuples_of k rest
+tuples_of-other k tuple rest ne = cond-false _ _ _ (ne_eqb _ _ ne)
+
+pub tuples_of-le-cons : (k : ℕ) (tuple : Tuple) (rest : List Tuple) → tuples_of k rest ≤ tuples_of k (tuple ∷ rest)
+tuples_of-le-cons k tuple rest = elim (cases_eq tuple.client k) [
+  | inl e ↦ omega (arith, tuples_of-own k tuple rest e)
+  | inr ne ↦ omega (arith, tuples_of-other k tuple rest ne)
+]
+
+-- a tuple put at the end
+pub tuples_of-push_own : (k : ℕ) (xs : List Tuple) (tuple : Tuple) → tuple.client ≡ k → tuples_of k (xs ++ tuple ∷ []) ≡ suc (tuples_of k xs)
+tuples_of-push_own k [] tuple e = tuples_of-own k tuple [] e
+tuples_of-push_own k (x ∷ xs) tuple e =
+    let rest = tuples_of-push_own k xs tuple e in
+    elim (cases_eq x.client k) [
+      | inl q ↦ omega (arith, tuples_of-own k x xs q, tuples_of-own k x (xs ++ tuple ∷ []) q)
+      | inr ne ↦ omega (arith, tuples_of-other k x xs ne, tuples_of-other k x (xs ++ tuple ∷ []) ne)
+    ]
+
+pub tuples_of-push_other : (k : ℕ) (xs : List Tuple) (tuple : Tuple) → (tuple.client ≡ k → ⊥) → tuples_of k (xs ++ tuple ∷ []) ≡ tuples_of k xs
+tuples_of-push_other k [] tuple ne = tuples_of-other k tuple [] ne
+tuples_of-push_other k (x ∷ xs) tuple ne =
+    let rest = tuples_of-push_other k xs tuple ne in
+    elim (cases_eq x.client k) [
+      | inl q ↦ omega (arith, tuples_of-own k x xs q, tuples_of-own k x (xs ++ tuple ∷ []) q)
+      | inr other ↦ omega (arith, tuples_of-other k x xs other, tuples_of-other k x (xs ++ tuple ∷ []) other)
+    ]
+
+-- what leaves the list
+pub without-own : (i : ℕ) (x : Tuple) (xs : List Tuple) → x.client ≡ i → without i (x ∷ xs) ≡ without i xs
+without-own i x xs e = cond-false _ _ _ (ap not (eq-eqb _ _ e))
+
+pub without-other : (i : ℕ) (x : Tuple) (xs : List Tuple) → (x.client ≡ i → ⊥) → without i (x ∷ xs) ≡ x ∷ without i xs
+without-other i x xs ne = cond-true _ _ _ (ap not (ne_eqb _ _ ne))
+
+pub tuples_of-without-own : (i : ℕ) (xs : List Tuple) → tuples_of i (without i xs) ≡ 0
+tuples_of-without-own i [] = refl
+tuples_of-without-own i (x ∷ xs) =
+    let rest = tuples_of-without-own i xs in
+    elim (cases_eq x.client i) [
+      | inl e ↦ ap (tuples_of i) (without-own i x xs e) ∙ rest
+      | inr ne ↦ ap (tuples_of i) (without-other i x xs ne) ∙ tuples_of-other i x (without i xs) ne ∙ rest
+    ]
+
+pub tuples_of-without-le : (k i : ℕ) (xs : List Tuple) → tuples_of k (without i xs) ≤ tuples_of k xs
+tuples_of-without-le k i [] = omega arith
+tuples_of-without-le k i (x ∷ xs) =
+    let rest = tuples_of-without-le k i xs in
+    let more = tuples_of-le-cons k x xs in
+    elim (cases_eq x.client i) [
+      | inl e ↦ omega (arith, ap (tuples_of k) (without-own i x xs e))
+      | inr ne ↦ elim (cases_eq x.client k) [
+        | inl q ↦ omega (arith, ap (tuples_of k) (without-other i x xs ne), tuples_of-own k x (without i xs) q, tuples_of-own k x xs q)
+        | inr other ↦ omega (arith, ap (tuples_of k) (without-other i x xs ne), tuples_of-other k x (without i xs) other, tuples_of-other k x xs other)
+      ]
+    ]
+
+pub tuples_of-drop-le : (k p : ℕ) (xs : List Tuple) → tuples_of k (drop p xs) ≤ tuples_of k xs
+tuples_of-drop-le k zero xs = omega arith
+tuples_of-drop-le k (suc p) [] = omega arith
+tuples_of-drop-le k (suc p) (x ∷ xs) = omega (arith, tuples_of-drop-le k p xs, tuples_of-le-cons k x xs)
+
+pub tuples_of-behind_place-le : (k : ℕ) (place : Option ℕ) (xs : List Tuple) → tuples_of k (behind_place place xs) ≤ tuples_of k xs
+tuples_of-behind_place-le k None xs = omega arith
+tuples_of-behind_place-le k (Some place) xs = tuples_of-drop-le k (place + 1) xs
+
+pub tuples_of-behind-le : (k i : ℕ) (xs : List Tuple) → tuples_of k (behind i xs) ≤ tuples_of k xs
+tuples_of-behind-le k i xs = tuples_of-behind_place-le k (position (λ (tuple : Tuple). tuple.client == i) xs) xs
+
+-- what each tuple keeps
+pub All-push : {X : Type 0} (P : X → Type 0) (xs : List X) (x : X) → AllByRecursion P xs → P x → AllByRecursion P (xs ++ x ∷ [])
+All-push P [] x all p = (p, tt)
+All-push P (y ∷ ys) x all p = (all.0, All-push P ys x all.1 p)
+
+pub All-without : (P : Tuple → Type 0) (i : ℕ) (xs : List Tuple) → AllByRecursion P xs → AllByRecursion P (without i xs)
+All-without P i [] all = tt
+All-without P i (x ∷ xs) all =
+    let rest = All-without P i xs all.1 in
+    elim (cases_eq x.client i) [
+      | inl e ↦ subst (λ (l : List Tuple). AllByRecursion P l) (sym (without-own i x xs e)) rest
+      | inr ne ↦ subst (λ (l : List Tuple). AllByRecursion P l) (sym (without-other i x xs ne)) (all.0, rest)
+    ]
+
+pub All-drop : (P : Tuple → Type 0) (p : ℕ) (xs : List Tuple) → AllByRecursion P xs → AllByRecursion P (drop p xs)
+All-drop P zero xs all = all
+All-drop P (suc p) [] all = tt
+All-drop P (suc p) (x ∷ xs) all = All-drop P p xs all.1
+
+pub All-behind_place : (P : Tuple → Type 0) (place : Option ℕ) (xs : List Tuple) → AllByRecursion P xs → AllByRecursion P (behind_place place xs)
+All-behind_place P None xs all = all
+All-behind_place P (Some place) xs all = All-drop P (place + 1) xs all
+
+pub All-behind : (P : Tuple → Type 0) (i : ℕ) (xs : List Tuple) → AllByRecursion P xs → AllByRecursion P (behind i xs)
+All-behind P i xs all = All-behind_place P (position (λ (tuple : Tuple). tuple.client == i) xs) xs all
+
+-- the tuples of clients 1 to n
+tuples_up_to : ℕ → List Tuple → ℕ
+tuples_up_to zero xs = 0
+tuples_up_to (suc n) xs = tuples_up_to n xs + tuples_of (suc n) xs
+
+up_to-none : (n : ℕ) → tuples_up_to n [] ≡ 0
+unfolding tuples_up_to
+up_to-none zero = refl
+up_to-none (suc n) = omega (arith, up_to-none n)
+
+up_to-above : (n : ℕ) (x : Tuple) (xs : List Tuple) → n < x.client → tuples_up_to n (x ∷ xs) ≡ tuples_up_to n xs
+unfolding tuples_up_to
+up_to-above zero x xs lt = refl
+up_to-above (suc n) x xs lt =
+    let ne : x.client ≡ suc n → ⊥ = λ e. absurd (omega arith) in
+    omega (arith, up_to-above n x xs (omega arith), tuples_of-other (suc n) x xs ne)
+
+up_to-within : (n : ℕ) (x : Tuple) (xs : List Tuple) → IsClient n x.client → tuples_up_to n (x ∷ xs) ≡ suc (tuples_up_to n xs)
+unfolding tuples_up_to
+up_to-within zero x xs within = absurd (omega (arith, within.from_one, within.to_n))
+up_to-within (suc n) x xs within = elim (cases_eq x.client (suc n)) [
+  | inl e ↦ omega (arith, up_to-above n x xs (omega arith), tuples_of-own (suc n) x xs e)
+  | inr ne ↦
+      let below : IsClient n x.client = record { from_one = within.from_one; to_n = omega (arith, within.to_n, ne) } in
+      omega (arith, up_to-within n x xs below, tuples_of-other (suc n) x xs ne)
+]
+
+length-up_to : (n : ℕ) (xs : List Tuple) → AllByRecursion (IsTupleFor n) xs → length xs ≡ tuples_up_to n xs
+length-up_to n [] all = sym (up_to-none n)
+length-up_to n (x ∷ xs) all = omega (arith, length-up_to n xs all.1, up_to-within n x xs all.0.client_in_range)
+
+up_to-le : (n : ℕ) (xs : List Tuple) → ((k : ℕ) → IsClient n k → tuples_of k xs ≤ 1) → tuples_up_to n xs ≤ n
+unfolding tuples_up_to
+up_to-le zero xs each = omega arith
+up_to-le (suc n) xs each =
+    let rest = up_to-le n xs (λ k within. each k (record { from_one = within.from_one; to_n = omega (arith, within.to_n) })) in
+    omega (arith, rest, each (suc n) (record { from_one = omega arith; to_n = omega arith }))
+
+up_to-lt : (n i : ℕ) (xs : List Tuple) → IsClient n i → tuples_of i xs ≡ 0 → ((k : ℕ) → IsClient n k → tuples_of k xs ≤ 1) → tuples_up_to n xs < n
+unfolding tuples_up_to
+up_to-lt zero i xs within none each = absurd (omega (arith, within.from_one, within.to_n))
+up_to-lt (suc n) i xs within none each =
+    let below : (k : ℕ) → IsClient n k → tuples_of k xs ≤ 1 = λ k inside. each k (record { from_one = inside.from_one; to_n = omega (arith, inside.to_n) }) in
+    let last : tuples_of (suc n) xs ≤ 1 = each (suc n) (record { from_one = omega arith; to_n = omega arith }) in
+    elim (cases_eq i (suc n)) [
+      | inl e ↦ let empty : tuples_of (suc n) xs ≡ 0 = subst (λ (x : ℕ). tuples_of x xs ≡ 0) e none in omega (arith, up_to-le n xs below)
+      | inr ne ↦ omega (arith, up_to-lt n i xs (record { from_one = within.from_one; to_n = omega (arith, within.to_n, ne) }) none below)
+    ]
+
+-- where each of n clients has at most one tuple, and one of them none, the list has fewer than n
+pub few_tuples : (n i : ℕ) (xs : List Tuple) → AllByRecursion (IsTupleFor n) xs → IsClient n i → tuples_of i xs ≡ 0 → ((k : ℕ) → IsClient n k → tuples_of k xs ≤ 1) → length xs < n
+few_tuples n i xs all within none each = omega (arith, length-up_to n xs all, up_to-lt n i xs within none each)

@@ -1,0 +1,6 @@
+use Rattle.std.proofs.Common.{◌≡◌, replicate}
+use Rattle.faust_server.specs.Rows.{unmade}
+use Rattle.faust_server.proofs.server.initial_versions.Given as goal
+
+abbrev pub invariant-loop : goal.invariant-loop
+invariant-loop l = l.versions.items ≡ replicate l.counter (unmade l.n)

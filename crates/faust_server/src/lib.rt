@@ -1,0 +1,18 @@
+// The honest server: it keeps what clients submit and commit, and answers each submission with what the other
+// clients did. It has no path to a key and looks at no tag. A message that comes out of turn is refused, and
+// leaves the state as it was.
+//
+// `specs/Rows.antt` comes first: the state, and its two rows `submitted` and `committed`, rule by rule. Each
+// call below is its row. `specs/States.antt` says what every state keeps: each client has at most one pending
+// operation, and only while it is uncommitted, so that no reply is out of range.
+#![tactic(auto)]
+
+mod ahead;
+mod pending;
+mod per_client;
+mod refusal;
+mod server;
+mod turn;
+
+pub use refusal::{OutOfTurn, ServerError};
+pub use server::Server;
