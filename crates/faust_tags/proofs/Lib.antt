@@ -1,0 +1,5 @@
+pub mod Pieces
+pub mod Versions
+pub mod Peers
+pub mod Fields
+pub mod FirstBytes
