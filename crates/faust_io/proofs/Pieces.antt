@@ -6,11 +6,12 @@ use Rattle.std.specs.Io.KnownBytes.{Appends, Consumes}
 use Rattle.std.proofs.KnownBytes.{Appends-trans, Consumes-trans}
 use Rattle.faust_io.specs.Writing.{AppendsPrefix}
 
--- The front that was written grows by what one more write took.
-pub Appends-more : (a b c : Option (List ℕ)) (text : List ℕ) (written count : ℕ) → Appends a b (take written text)
-    → Appends b c (take count (drop written text)) → Appends a c (take (written + count) text)
-Appends-more a b c text written count front piece =
-    subst (Appends a c) (sym (take-add written count text)) (Appends-trans a b c _ _ front piece)
+-- The front that was written grows by what one more write took of the rest.
+pub Appends-more : (a b c : Option (List ℕ)) (text rest : List ℕ) (written count : ℕ) → rest ≡ drop written text
+    → Appends a b (take written text) → Appends b c (take count rest) → Appends a c (take (written + count) text)
+Appends-more a b c text rest written count is front piece =
+    subst (Appends a c) (ap (λ xs. take written text ++ take count xs) is ∙ sym (take-add written count text))
+    (Appends-trans a b c _ _ front piece)
 
 -- What was written before a write failed is a prefix of the text.
 pub prefix_written : (a b c : Option (List ℕ)) (text : List ℕ) (written : ℕ) → Appends a b (take written text) → c ≡ b

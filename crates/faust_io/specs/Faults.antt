@@ -1,20 +1,26 @@
 -- What a count of faults says.
-use Rattle.std.specs.Prelude.{◌≡◌, ◌≢◌, ℕ, ◌+◌, ◌-◌, ◌^◌, ◌≤◌, min, List, Result, Err, OnOk, OnErr}
+use Rattle.std.specs.Prelude.{◌≡◌, ℕ, ◌+◌, ◌-◌, ◌^◌, ◌≤◌, min, List, Result, MatchResult}
 use Rattle.faust_io.specs.declared.failed.ReadError.{ReadError}
-use Rattle.faust_io.specs.declared.failed.ReadError.TheVariants as errors
+use Rattle.faust_io.specs.declared.failed.ReadError.TheVariants.{TooLong, Failed, OutOfMemory}
 
 -- The count rose. One that stands at the end of 64 bits has no way up, and counts as one that rose.
 abbrev pub Rose : ℕ → ℕ → Type 0
 Rose before now = min (before + 1) (2 ^ 64 - 1) ≤ now
 
--- What one call does to the count: it rises where the call fails, and stands still where it doesn't.
-pub record Counts {T E : Type 0} (result : Result T E) (before now : ℕ) : Type 0 where
+-- What a fault does to the count. A count never falls.
+pub record CountsFault (before now : ℕ) : Type 0 where
+  pub rose : Rose before now
   pub later : before ≤ now
-  pub failed : OnErr result (Rose before now)
-  pub kept : OnOk result (now ≡ before)
 
--- The same of reading a whole source: no answer but the failed read goes with a change of the count.
-pub record CountsReading (result : Result (List ℕ) ReadError) (before now : ℕ) : Type 0 where
-  pub later : before ≤ now
-  pub failed : result ≡ Err errors.Failed → Rose before now
-  pub kept : result ≢ Err errors.Failed → now ≡ before
+-- What one call does to the count: it stands still unless the call fails.
+abbrev pub Counts : {T E : Type 0} → Result T E → ℕ → ℕ → Type 0
+Counts result before now = MatchResult result (λ _. now ≡ before) (λ _. CountsFault before now)
+
+-- What reading a whole source does to the count: it stands still unless a read failed.
+abbrev pub CountsError : ReadError → ℕ → ℕ → Type 0
+CountsError TooLong before now = now ≡ before
+CountsError Failed before now = CountsFault before now
+CountsError OutOfMemory before now = now ≡ before
+
+abbrev pub CountsReading : Result (List ℕ) ReadError → ℕ → ℕ → Type 0
+CountsReading result before now = MatchResult result (λ _. now ≡ before) (λ error. CountsError error before now)

@@ -1,9 +1,9 @@
-// Sources and sinks: where bytes come from and where they go, without saying what stands outside. A read or
-// a write that fails raises a count, and nothing else does: so whoever answers for a fault can be told from
-// whoever doesn't. `read_whole` answers all bytes of a source up to its end, or says that there are more than
-// a limit allows; `write_whole` writes a whole text, or a prefix of it and fails.
+// Sources and sinks: where bytes come from and where they go, whatever stands outside. A read or a write that
+// fails raises a count of faults, and nothing else does, so a contract above can say by the count alone that a
+// failure came from outside. `read_whole` answers all bytes of a source up to its end, or that there are more
+// than a limit; `write_whole` writes a whole text, or fails after a prefix of it.
 //
-// `specs/Faults.antt` comes first: what a count says. `specs/Reading.antt` and `specs/Writing.antt` say what
+// `specs/Faults.antt` comes first: what the counts say. `specs/Reading.antt` and `specs/Writing.antt` say what
 // reads and writes do to the bytes of a source and of a sink that tell them, and `specs/Memory.antt` how the
 // sources and sinks in memory answer each call.
 //

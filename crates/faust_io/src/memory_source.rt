@@ -1,4 +1,4 @@
-ghost use Rattle.std.specs.Prelude.{◌≡◌, ◌↔◌, ◌<◌, min, length, take, drop, Some, Ok, IfOk, IsErr, IsOk, OnErr};
+ghost use Rattle.std.specs.Prelude.{◌≡◌, ◌↔◌, ◌<◌, min, length, take, drop, Some, Ok, IfOk, IsErr, OnErr};
 ghost use Rattle.faust_io.specs.Faults.{Counts};
 ghost use Rattle.faust_io.specs.Reading.{Reads};
 

@@ -9,7 +9,7 @@ pub trait Sink {
     /// The bytes that it holds, where the type tells them. A sink that tells goes on telling.
     ghost held: { Self → Option (List ℕ) };
 
-    /// How many writes failed.
+    /// How many writes failed. The number may stop at the end of 64 bits.
     ghost faults: { Self → ℕ };
 
     /// Puts the first bytes of the piece behind those that the sink holds, and answers how many: at least one

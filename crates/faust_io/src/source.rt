@@ -9,7 +9,7 @@ pub trait Source {
     /// The bytes that are left, where the type tells them. A source that tells goes on telling.
     ghost left: { Self → Option (List ℕ) };
 
-    /// How many reads failed.
+    /// How many reads failed. The number may stop at the end of 64 bits.
     ghost faults: { Self → ℕ };
 
     /// Puts the next bytes at the front of the buffer, and answers how many: 0 into a buffer with room only

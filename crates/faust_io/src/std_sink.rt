@@ -19,7 +19,7 @@ impl<W: Write> StdSink<W> {
 
     /// How many writes failed.
     pub fn faults(&self) -> u64
-        ensures { result ≡ self.now.faults }
+        ensures { result ≡ ⟦<StdSink<W> as Sink>⟧.faults self.now }
     {
         self.faults
     }

@@ -18,7 +18,7 @@ impl<R: Read> StdSource<R> {
 
     /// How many reads failed.
     pub fn faults(&self) -> u64
-        ensures { result ≡ self.now.faults }
+        ensures { result ≡ ⟦<StdSource<R> as Source>⟧.faults self.now }
     {
         self.faults
     }

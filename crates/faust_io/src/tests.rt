@@ -10,8 +10,8 @@ use std::test::Fail;
 
 const TEXT: &[u8] = b"faust report 1\n";
 
-/// What `read_whole` answers at a source in memory of the text.
-fn input_of(
+/// Reads the text whole from a source in memory, and compares the answer.
+fn check_input(
     rt: &(impl Abort + AllocGlobal),
     most: usize,
     fails: &[u64],
@@ -44,7 +44,7 @@ fn inputs_are_read_to_their_end(rt: HostRuntime) -> Result<(), Fail> {
         (4, &[6], 15, Ok(TEXT)),
     ];
     for (most, fails, limit, expected) in cases {
-        input_of(&rt, most, fails, limit, expected)?;
+        check_input(&rt, most, fails, limit, expected)?;
     }
     Ok(())
 }

@@ -9,7 +9,7 @@ loop-filled-preserved g c =
     record {
       within = omega (arith, read.bytes.fits, read.len, c.read_behind.new.buffer.ok.0, length-drop c.loop-filled.filled c.read_behind.new.buffer.items);
       bounded = omega (arith, read.len, c.in_ok-make_room.ensures.bounded);
-      kept = read.count.kept ∙ before.kept;
+      kept = read.count ∙ before.kept;
       front = Consumes-more _ _ _ c.loop-filled.buffer.items c.read_behind.new.buffer.items c.loop-filled.filled c.in_ok-given.given
           before.front (read.front ∙ c.in_ok-make_room.ensures.front) read.bytes.next;
     }

@@ -13,7 +13,7 @@ loop-written-preserved g c =
     let took = c.in_ok-written.ensures.bytes in
     record {
       within = search rules;
-      kept = c.in_ok-written.ensures.count.kept ∙ c.loop-written.invariant.kept;
-      behind = Appends-more _ _ _ c.args.text.now c.loop-written.written c.in_ok-written.field-0
-          c.loop-written.invariant.behind (rw take_rest at took.behind);
+      kept = c.in_ok-written.ensures.count ∙ c.loop-written.invariant.kept;
+      behind = Appends-more _ _ _ c.args.text.now _ c.loop-written.written c.in_ok-written.field-0 (search (rules, take_rest))
+          c.loop-written.invariant.behind took.behind;
     }
