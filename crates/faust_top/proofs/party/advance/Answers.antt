@@ -1,0 +1,13 @@
+use Rattle.std.proofs.Common.{◌≡◌, ℕ, List, Bool, false, sym, subst, rules}
+use Rattle.faust_types.specs.Ranges.{IsDigest, IsVersionFor}
+use Rattle.faust_types.specs.Versions.{Vector, is_initial}
+use Rattle.faust_types.proofs.Entries.{in_range-with_entry, not_initial-with_entry}
+use Rattle.faust_top.proofs.party.advance.Goals as goal
+
+pub returns-clause-range : goal.returns-clause-range
+returns-clause-range c =
+    let digest : IsDigest c.chain.result = search rules in
+    rw c.set.ensures (in_range-with_entry 2 c.count_all-digest.new.version c.args.me c.args.t c.chain.result c.count_all-digest.ensures c.requires.client c.requires.number.from_one c.requires.number.below digest)
+
+pub returns-clause-signed : goal.returns-clause-signed
+returns-clause-signed c = rw c.set.ensures (not_initial-with_entry c.count_all-digest.new.version c.args.me c.args.t c.chain.result (search rules) c.requires.number.from_one)

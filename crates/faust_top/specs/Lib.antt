@@ -1,0 +1,4 @@
+pub mod Answer
+pub mod Script
+pub mod Report
+pub mod Machine
