@@ -6,3 +6,4 @@ pub mod History
 pub mod Played
 pub mod Answering
 pub mod Words
+pub mod Order

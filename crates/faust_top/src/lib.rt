@@ -7,6 +7,7 @@
 // plays: `specs/Machine.antt` says what its steps do, and that is no part of what `run` promises.
 #![tactic(auto)]
 
+pub mod laws;
 mod machine;
 mod party;
 mod refusal;
