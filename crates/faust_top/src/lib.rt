@@ -14,6 +14,8 @@ mod refusal;
 mod report;
 mod script;
 mod seen;
+#[cfg(test)]
+mod tests;
 mod top;
 
 pub use top::run;
