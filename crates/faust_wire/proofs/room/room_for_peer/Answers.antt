@@ -1,0 +1,6 @@
+use Rattle.std.proofs.Common.{◌≡◌, ◌+◌, ◌≤◌, arith}
+use Rattle.faust_wire.proofs.Lengths.{length-peer}
+use Rattle.faust_wire.proofs.room.room_for_peer.Goals as goal
+
+pub returns : goal.returns
+returns c = omega (arith, length-peer 1 c.args.n c.args.message.now c.requires, c.room_for_content.ensures.enough)

@@ -1,0 +1,25 @@
+// The bytes of messages, both ways. `decode` answers a message exactly where the bytes spell one for n
+// clients, and `encode` answers the one spelling of a message; so what is sent is read as it was sent, and
+// whatever else comes is refused. `specs/Grammar.antt` comes first: the spelling of each piece and message,
+// apart from both calls. `specs/Reading.antt` says in which steps bytes are read, for the parts of `decode`.
+//
+// Which messages are in range is `faust_types`' business, and no tag is made or looked at here.
+#![tactic(auto)]
+
+mod error;
+pub mod laws;
+mod message;
+mod numbers;
+mod parts;
+mod pieces;
+mod put;
+mod reading;
+mod room;
+#[cfg(test)]
+mod tests;
+mod version;
+mod writing;
+
+pub use error::WireError;
+pub use reading::{decode, read_version};
+pub use writing::{encode, encode_commit};

@@ -1,0 +1,104 @@
+//! Room for spellings, so that one allocation serves each.
+ghost use Rattle.std.specs.Prelude.{◌≡◌, ◌+◌, ◌*◌, ◌≤◌, length, IfSome, Option};
+ghost use Rattle.faust_types.specs.Ranges.{IsValue, IsMem, IsReadPartFor, IsSubmitFor, IsReplyFor, IsCommitFor, IsPeerFor, IsPeerMessageFor};
+ghost use Rattle.faust_types.specs.Spelling.{peer_content};
+ghost use Rattle.faust_types.specs.declared.message.Commit.{Commit};
+ghost use Rattle.faust_wire.specs.Grammar.{submit_bytes, reply_bytes, commit_bytes, peer_bytes, read_part_bytes, memory_bytes, optional_value_bytes};
+
+use faust_types::{Bytes, Mem, Peer, PeerMessage, ReadPart, Reply, Submit};
+
+// The bytes of a timestamp, of a tag or digest, of one behind a flag, and of a tuple.
+const NUMBER_LEN: usize = 8;
+
+const TAG_LEN: usize = 32;
+
+const OPTIONAL_LEN: usize = 1 + TAG_LEN;
+
+const TUPLE_LEN: usize = 3 + TAG_LEN;
+
+fn room_for_version(n: u8) -> usize
+    ensures { result ≡ 41 * n }
+{
+    usize::from(n) * (NUMBER_LEN + OPTIONAL_LEN)
+}
+
+fn room_for_signed(n: u8) -> usize
+    ensures { result ≡ 33 + 41 * n }
+{
+    1 + room_for_version(n) + TAG_LEN
+}
+
+fn room_for_value(value: &Option<Bytes>) -> usize
+    requires { IfSome value.now IsValue }
+    ensures enough { length (optional_value_bytes value.now) ≤ result }
+    ensures most { result ≤ 4099 }
+{
+    match value {
+        None => 1,
+        Some(value) => 3 + value.len(),
+    }
+}
+
+fn room_for_memory(mem: &Option<Mem>) -> usize
+    requires { IfSome mem.now IsMem }
+    ensures enough { length (memory_bytes mem.now) ≤ result }
+    ensures most { result ≤ 4140 }
+{
+    match mem {
+        None => 1,
+        Some(mem) => 1 + NUMBER_LEN + room_for_value(&mem.value) + TAG_LEN,
+    }
+}
+
+fn room_for_read_part(n: u8, part: &Option<ReadPart>) -> usize
+    requires { IfSome part.now (IsReadPartFor n) }
+    ensures enough { length (read_part_bytes part.now) ≤ result }
+    ensures most { result ≤ 4175 + 41 * n }
+{
+    match part {
+        None => 1,
+        Some(part) => 2 + room_for_signed(n) + room_for_memory(&part.mem),
+    }
+}
+
+pub(crate) fn room_for_submit(n: u8, submit: &Submit) -> usize
+    requires { IsSubmitFor n submit.now }
+    ensures { length (submit_bytes 1 submit.now) ≤ result }
+{
+    4 + NUMBER_LEN + 2 * TAG_LEN + room_for_value(&submit.value)
+}
+
+pub(crate) fn room_for_reply(n: u8, reply: &Reply) -> usize
+    requires { IsReplyFor n reply.now }
+    ensures { length (reply_bytes 1 reply.now) ≤ result }
+{
+    4 + room_for_signed(n)
+        + reply.pending.len() * TUPLE_LEN
+        + usize::from(n) * OPTIONAL_LEN
+        + room_for_read_part(n, &reply.read)
+}
+
+pub(crate) fn room_for_commit(n: u8) -> usize
+    ensures { (commit : Commit) → IsCommitFor n commit → length (commit_bytes 1 commit) ≤ result }
+{
+    2 + room_for_version(n) + 2 * TAG_LEN
+}
+
+fn room_for_content(n: u8, peer: &Peer) -> usize
+    requires { IsPeerFor n peer.now }
+    ensures enough { length (peer_content peer.now) ≤ result }
+    ensures most { result ≤ 33 + 41 * n }
+{
+    match peer {
+        Peer::Probe => 0,
+        Peer::Version(_) => room_for_signed(n),
+        Peer::Failure(_) => 1,
+    }
+}
+
+pub(crate) fn room_for_peer(n: u8, message: &PeerMessage) -> usize
+    requires { IsPeerMessageFor n message.now }
+    ensures { length (peer_bytes 1 message.now) ≤ result }
+{
+    4 + room_for_content(n, &message.peer) + TAG_LEN
+}
