@@ -6,6 +6,8 @@ use Rattle.faust_types.specs.Ranges.{IsSubmitFor, IsCommitFor, IsReplyFor}
 use Rattle.faust_types.specs.declared.message.Submit.{Submit}
 use Rattle.faust_types.specs.declared.message.Commit.{Commit}
 use Rattle.faust_types.specs.declared.message.Reply as messages
+use Rattle.faust_types.specs.declared.message.Message.TheVariants as all_messages
+use Rattle.faust_wire.specs.Grammar.{IsSpellingOf}
 use Rattle.faust_server.specs.Rows.{State, client_count, turn_at}
 use Rattle.faust_top.specs.declared.script.Event.{Event}
 use Rattle.faust_top.specs.declared.script.Event.TheVariants.{Write, Arrive, Reply}
@@ -27,6 +29,21 @@ pub record IsCommitOf (i t : ℕ) (commit : Commit) : Type 0 where
   pub in_range : IsCommitFor 2 commit
   pub numbered : timestamp_at commit.version i ≡ t
 
+-- Bytes that spell such messages, and bytes that spell a reply.
+pub record IsSubmitBytes (t : ℕ) (bytes : List ℕ) : Type 0 where
+  pub submit : Submit
+  pub spelled : IsSpellingOf 2 bytes (all_messages.Submit submit)
+  pub numbered : submit.t ≡ t
+
+pub record IsCommitBytes (i t : ℕ) (bytes : List ℕ) : Type 0 where
+  pub commit : Commit
+  pub spelled : IsSpellingOf 2 bytes (all_messages.Commit commit)
+  pub numbered : timestamp_at commit.version i ≡ t
+
+pub record IsReplyBytes (bytes : List ℕ) : Type 0 where
+  pub reply : messages.Reply
+  pub spelled : IsSpellingOf 2 bytes (all_messages.Reply reply)
+
 -- Client i with its messages on their way: which are on their way follows from its counts.
 pub record IsParty (i : ℕ) (party : Party) : Type 0 where
   pub one_pending : (party.completed ≤ party.begun) × (party.begun ≤ party.completed + 1)
@@ -35,9 +52,9 @@ pub record IsParty (i : ℕ) (party : Party) : Type 0 where
   pub submit_due : IsSome party.submit ↔ (party.arrived + 1 < 2 * party.begun)
   pub commit_due : IsSome party.commit ↔ (party.arrived < 2 * party.completed)
   pub reply_due : IsSome party.reply ↔ (2 * party.completed < party.arrived)
-  pub submit_of : IfSome party.submit (IsSubmitOf party.begun)
-  pub commit_of : IfSome party.commit (IsCommitOf i party.completed)
-  pub reply_for : IfSome party.reply (IsReplyFor 2)
+  pub submit_of : IfSome party.submit (IsSubmitBytes party.begun)
+  pub commit_of : IfSome party.commit (IsCommitBytes i party.completed)
+  pub reply_for : IfSome party.reply IsReplyBytes
 
 -- What an event adds to the counts of its client.
 abbrev pub acted : Counts → Event → Counts
@@ -77,17 +94,17 @@ pub record IsTurnAt (i : ℕ) (party : Party) (server : State) : Type 0 where
 abbrev pub KeepsTurns : ℕ → State → State → Type 0
 KeepsTurns i old new = (k : ℕ) → 1 ≤ k → k ≢ i → turn_at new k ≡ turn_at old k
 
--- What a COMMIT of client i leaves of the turns, and what a SUBMIT of its operation t does, with a reply in range.
+-- What a COMMIT of client i leaves of the turns, and what a SUBMIT of its operation t does, with the bytes of a reply.
 pub record IsSettled (i : ℕ) (old new : State) : Type 0 where
   pub two_clients : client_count new ≡ 2
   pub turn : turn_at new i ≡ record (turn_at old i) { uncommitted = false }
   pub others : KeepsTurns i old new
 
-pub record IsServed (i t : ℕ) (old new : State) (reply : messages.Reply) : Type 0 where
+pub record IsServed (i t : ℕ) (old new : State) (reply : List ℕ) : Type 0 where
   pub two_clients : client_count new ≡ 2
   pub turn : turn_at new i ≡ record { last = t; uncommitted = true }
   pub others : KeepsTurns i old new
-  pub reply_for : IsReplyFor 2 reply
+  pub reply_spelled : IsReplyBytes reply
 
 -- What an event leaves of its client i and of the server.
 pub record IsLeft (i : ℕ) (now : Counts) (party : Party) (old new : State) : Type 0 where

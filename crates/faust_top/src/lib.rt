@@ -9,6 +9,7 @@
 
 pub mod laws;
 mod machine;
+mod mail;
 mod party;
 mod refusal;
 mod report;

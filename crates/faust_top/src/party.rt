@@ -1,19 +1,16 @@
 ghost use Rattle.std.specs.Prelude.{◌≡◌, ◌+◌, ◌^◌, ◌<◌, false, IfOk};
 ghost use Rattle.std.specs.List.{AllByRecursion};
 ghost use Rattle.faust_types.specs.Clients.{IsClient};
-ghost use Rattle.faust_types.specs.Ranges.{IsDigest, IsOperationNumber, IsReplyFor, IsValue, IsTupleFor, IsVersionFor};
-ghost use Rattle.faust_types.specs.Versions.{timestamp_at, is_initial};
-ghost use Rattle.faust_top.specs.Machine.{IsParty, IsSubmitOf, IsCommitOf, Begins, Completes, counts_at, no_counts};
+ghost use Rattle.faust_types.specs.Ranges.{IsDigest, IsOperationNumber, IsTupleFor, IsValue, IsVersionFor};
+ghost use Rattle.faust_types.specs.Versions.{is_initial, timestamp_at};
+ghost use Rattle.faust_top.specs.Machine.{IsParty, IsCommitBytes, IsReplyBytes, Begins, Completes, counts_at, no_counts};
 
+use crate::mail::{commit_bytes, read_reply, submit_bytes};
 use crate::refusal::Refusal;
 use crate::seen::Seen;
 use faust_hash::chain;
-use faust_types::{
-    Bytes, Commit, Digest, Kind, MAX_TIMESTAMP, OpName, OutOfMemory, Reply, Submit, Tag, Tuple,
-    Version,
-};
-
-const NO_TAG: Tag = [0; 32];
+use faust_types::{Bytes, Digest, MAX_TIMESTAMP, OpName, OutOfMemory, Tuple, Version};
+use std::alloc::Global;
 
 /// A client, what it counts, and its messages on their way. A client that waits for a reply sends nothing more,
 /// so at most a COMMIT and the SUBMIT after it are on their way to the server, and one reply on its way back.
@@ -23,9 +20,9 @@ pub struct Party {
     pub begun: u64,
     pub arrived: u64,
     pub completed: u64,
-    pub submit: Option<Submit>,
-    pub commit: Option<Commit>,
-    pub reply: Option<Reply>,
+    pub submit: Option<Bytes>,
+    pub commit: Option<Bytes>,
+    pub reply: Option<Bytes>,
 }
 
 impl Party {
@@ -46,7 +43,7 @@ impl Party {
     }
 
     /// Begins a write. `Form` comes where an operation is pending.
-    pub fn begin(&mut self, me: u8, value: &Bytes) -> Result<(), Refusal>
+    pub fn begin(&mut self, alloc: Global, me: u8, value: &Bytes) -> Result<(), Refusal>
         requires party { IsParty me self.old }
         requires client { IsClient 2 me }
         requires value { IsValue value.now }
@@ -56,14 +53,14 @@ impl Party {
         if self.begun != self.completed {
             return Err(Refusal::Form);
         }
-        let submit = submit_of(me, self.begun + 1, value)?;
+        let submit = submit_bytes(alloc, me, self.begun + 1, value)?;
         self.begun += 1;
         self.submit = Some(submit);
         Ok(())
     }
 
     /// Takes the reply, and completes the operation. `Form` comes where there is no reply.
-    pub fn complete(&mut self, me: u8) -> Result<Seen, Refusal>
+    pub fn complete(&mut self, alloc: Global, me: u8) -> Result<Seen, Refusal>
         requires party { IsParty me self.old }
         requires client { IsClient 2 me }
         requires room { self.old.begun < 2 ^ 40 }
@@ -72,7 +69,7 @@ impl Party {
         let Some(reply) = self.reply.take() else {
             return Err(Refusal::Form);
         };
-        self.commit = Some(commit_of(me, self.begun, reply));
+        self.commit = Some(committed(alloc, me, self.begun, &reply)?);
         self.completed += 1;
         Ok(Seen::Done(OpName {
             client: me,
@@ -81,41 +78,22 @@ impl Party {
     }
 }
 
-/// The message that hands a write to the server.
-fn submit_of(me: u8, t: u64, value: &Bytes) -> Result<Submit, OutOfMemory>
+/// The COMMIT of operation t after the reply.
+fn committed(alloc: Global, me: u8, t: u64, bytes: &Bytes) -> Result<Bytes, OutOfMemory>
     requires client { IsClient 2 me }
     requires number { IsOperationNumber t }
-    requires value { IsValue value.now }
-    ensures { IfOk result (IsSubmitOf t) }
+    requires reply { IsReplyBytes bytes.now }
+    ensures { IfOk result (IsCommitBytes me t) }
 {
-    Ok(Submit {
-        kind: Kind::Write,
-        register: me,
-        t,
-        value: Some(value.copy()?),
-        submit_tag: NO_TAG,
-        data_tag: NO_TAG,
-    })
-}
-
-/// The message that commits operation t after the reply.
-fn commit_of(me: u8, t: u64, reply: Reply) -> Commit
-    requires client { IsClient 2 me }
-    requires number { IsOperationNumber t }
-    requires reply { IsReplyFor 2 reply }
-    ensures { IsCommitOf me t result }
-{
+    let reply = read_reply(alloc, bytes)?;
     let mut version = reply.version.version;
-    advance(&mut version, reply.c, reply.pending.as_slice(), me, t);
-    Commit {
-        version,
-        commit_tag: NO_TAG,
-        proof_tag: NO_TAG,
-    }
+    let own = advance(&mut version, reply.c, reply.pending.as_slice(), me, t);
+    commit_bytes(alloc, me, t, version, &own)
 }
 
-/// Makes the version of client c that of operation t: one step for each pending operation, and the own one.
-fn advance(version: &mut Version, c: u8, pending: &[Tuple], me: u8, t: u64)
+/// Makes the version of client c that of operation t: one step for each pending operation, and the own one, whose
+/// digest it answers.
+fn advance(version: &mut Version, c: u8, pending: &[Tuple], me: u8, t: u64) -> Digest
     requires range { IsVersionFor 2 version.old }
     requires committer { IsClient 2 c }
     requires tuples { AllByRecursion (IsTupleFor 2) pending.now }
@@ -125,8 +103,10 @@ fn advance(version: &mut Version, c: u8, pending: &[Tuple], me: u8, t: u64)
     ensures signed { is_initial version.new ≡ false }
     ensures own { timestamp_at version.new me ≡ t }
 {
-    let digest = count_all(version, c, pending);
-    version.set(me, t, chain(digest.as_ref(), me));
+    let before = count_all(version, c, pending);
+    let own = chain(before.as_ref(), me);
+    version.set(me, t, own);
+    own
 }
 
 /// Counts the pending operations behind the version of client c, and answers the digest of all of them.

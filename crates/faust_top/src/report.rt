@@ -73,7 +73,7 @@ fn played(alloc: Global, events: &[Event]) -> Result<Lines, Refusal>
     let mut machine = Machine::new(alloc)?;
     let mut lines = Lines::new(alloc);
     for (entry, event) in events.iter().enumerate() {
-        let seen = machine.step(event)?;
+        let seen = machine.step(alloc, event)?;
         lines.put(entry as u64, seen)?;
     }
     Ok(lines)
