@@ -6,7 +6,7 @@ use Rattle.faust_types.specs.declared.status.Status.TheVariants.{Done, Usage, Re
 use Rattle.faust_io.specs.Faults.{CountsFault}
 use Rattle.faust_io.specs.Writing.{AppendsPrefix}
 use Rattle.faust_top.specs.declared.script.Event.{Event}
-use Rattle.faust_top.specs.Script.{HasForm}
+use Rattle.faust_top.specs.Script.{CanBePlayed, HasForm}
 use Rattle.faust_top.specs.Report.{report_text}
 
 -- The one form of the words.
@@ -32,11 +32,12 @@ pub record Ends : Type 0 where
   pub writes_failed_after : ℕ
 
 -- Which text is due at a status. Wrong words have the usage line, whatever the source holds; an input that hasn't
--- the form is refused; an input that has it gets the report of its events.
+-- the form is refused; an input that has it gets the report of its events. Where the source doesn't tell its bytes,
+-- the report is still that of events that can be played.
 abbrev pub IsDue : List (List ℕ) → Option (List ℕ) → Status → List ℕ → Type 0
 IsDue words left Usage text = (AreScriptWords words → ⊥) × (text ≡ usage_text)
 IsDue words left Refused text = AreScriptWords words × (text ≡ refusal_text) × IfSome left (λ input. (events : List Event) → HasForm input events → ⊥)
-IsDue words left Done text = AreScriptWords words × ((events : List Event) × (text ≡ report_text events) × IfSome left (λ input. HasForm input events))
+IsDue words left Done text = AreScriptWords words × ((events : List Event) × (text ≡ report_text events) × CanBePlayed events × IfSome left (λ input. HasForm input events))
 IsDue words left ReadFault text = ⊥
 IsDue words left WriteFault text = ⊥
 IsDue words left OutOfMemory text = ⊥

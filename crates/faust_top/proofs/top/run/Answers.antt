@@ -39,6 +39,7 @@ returns-in-Ok-answer g c =
       (
         report.0,
         report.1,
+        report.2.playable,
         some_weaker (g.S.Source.left c.args.source.now) (λ content. content ≡ c.in-Ok.input) (λ input. HasForm input report.0)
             (λ content same. subst (λ (i : List ℕ). HasForm i report.0) (sym (same ∙ sym c.as_slice.ensures)) report.2)
             whole.all,
