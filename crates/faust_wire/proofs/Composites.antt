@@ -1,21 +1,21 @@
 -- The readers of signed versions, tuples, memories and read parts.
-use Rattle.std.proofs.Common.{◌≡◌, ℕ, zero, suc, ◌+◌, ◌-◌, ◌<◌, ◌≤◌, Bool, true, false, cond, List, [], ◌∷◌, ◌++◌, length, get_or, replicate, Option, Some, None, refl, sym, ap, subst, ◌∙◌, append_assoc, arith, inl, inr}
+use Rattle.std.proofs.Common.{◌≡◌, ℕ, zero, suc, ◌≤◌, Bool, true, false, cond, List, [], ◌∷◌, ◌++◌, length, get_or, replicate, Option, Some, refl, sym, ap, subst, ◌∙◌, append_assoc, arith, inl, inr}
 use Rattle.std.specs.Prelude.{IfSome, nat_lt, ◌==◌, flat_map}
 use Rattle.std.specs.List.{AllByRecursion}
-use Rattle.std.proofs.lemmas.Bool.{both_ways, cases_Bool, ltb-false, le-ltb, eqb-true, eqb-false, eq-eqb, ne_eqb}
+use Rattle.std.proofs.lemmas.Bool.{both_ways, cases_Bool, ltb-false, le-ltb, eqb-true, eqb-false, ne_eqb}
 use Rattle.std.proofs.lemmas.Option.{same_Some}
 use Rattle.std.proofs.lemmas.List.{length-replicate}
 use Rattle.faust_types.specs.Clients.{IsClientCount, IsClient}
 use Rattle.faust_types.specs.Versions.{Vector, initial, is_initial}
-use Rattle.faust_types.specs.Ranges.{AreBytes, IsDigest, IsVersionFor, IsKnownBy, IsAnnouncedFor, IsTupleFor, IsMem, IsReadPartFor}
-use Rattle.faust_types.specs.Spelling.{be64, version_bytes, kind_byte, announced}
+use Rattle.faust_types.specs.Ranges.{AreBytes, IsKnownBy, IsAnnouncedFor, IsTupleFor, IsMem, IsReadPartFor}
+use Rattle.faust_types.specs.Spelling.{be64, version_bytes, announced}
 use Rattle.faust_types.specs.declared.message.Known.{Known}
 use Rattle.faust_types.specs.declared.message.Tuple.{Tuple}
 use Rattle.faust_types.specs.declared.message.Mem.{Mem}
 use Rattle.faust_types.specs.declared.message.ReadPart.{ReadPart}
 use Rattle.faust_wire.specs.Grammar.{signed_bytes, optional_value_bytes, memory_bytes, tuple_bytes, read_part_bytes}
-use Rattle.faust_wire.specs.Reading.{◌>>=◌, next_byte, next_flag, next_version, next_tag, next_known, next_signed, next_announced, next_up_to, next_kind, next_number, next_tuple, next_items, next_pending, next_value, next_mem, next_read_part, optionally, unsigned}
-use Rattle.faust_wire.proofs.Readers.{bind_ok, bind_some, unless_ok, if_ok, chosen, AreBytes-rest, Takes, takes_then, IsRead, IsReader, optionally_reader, AreItems, items_reader}
+use Rattle.faust_wire.specs.Reading.{next_flag, next_version, next_tag, next_known, next_signed, next_announced, next_up_to, next_kind, next_number, next_tuple, next_pending, next_value, next_mem, next_read_part, optionally, unsigned}
+use Rattle.faust_wire.proofs.Readers.{bind_ok, bind_some, unless_ok, chosen, AreBytes-rest, takes_then, IsRead, IsReader, optionally_reader, items_reader}
 use Rattle.faust_wire.proofs.SmallParts.{tag_reader, client_reader, kind_reader, number_reader, optional_value_reader}
 use Rattle.faust_wire.proofs.Entries.{version_reader, initial_fits, is_initial-initial, initial_is}
 

@@ -1,16 +1,16 @@
 -- The reader of versions: timestamps and digests, read side by side.
-use Rattle.std.proofs.Common.{◌≡◌, ◌≢◌, ◌↔◌, ℕ, zero, suc, ◌+◌, ◌-◌, ◌*◌, ◌^◌, ◌<◌, ◌≤◌, Bool, true, false, cond, List, [], ◌∷◌, ◌++◌, length, get_or, replicate, Option, Some, None, refl, sym, ap, subst, ◌∙◌, append_assoc, arith, inl, inr, ◌⊎◌}
+use Rattle.std.proofs.Common.{◌≡◌, ◌↔◌, ℕ, zero, suc, ◌+◌, ◌-◌, ◌*◌, ◌^◌, ◌<◌, true, false, List, [], ◌∷◌, ◌++◌, length, get_or, replicate, Option, Some, None, refl, sym, ap, subst, ◌∙◌, append_assoc, arith, inl, inr}
 use Rattle.std.specs.Prelude.{IfSome, IsNone, is_none, ◌==◌, flat_map, slice_set}
 use Rattle.std.specs.List.{AllZip}
 use Rattle.std.proofs.lemmas.Bool.{eqb-true, eqb-false, eq-eqb, ne_eqb, true≢false, false≢true}
 use Rattle.std.proofs.lemmas.Option.{same_Some}
 use Rattle.std.proofs.lemmas.List.{append-nil, length_push, length-append, set_at, nil_from_length, length-replicate}
 use Rattle.faust_types.specs.Clients.{IsClientCount, IsClient}
-use Rattle.faust_types.specs.Versions.{Vector, IsVersion, clients_of, initial, is_initial, with_entry}
+use Rattle.faust_types.specs.Versions.{Vector, clients_of, initial, is_initial}
 use Rattle.faust_types.specs.Ranges.{AreBytes, IsDigest, IsVersionFor}
 use Rattle.faust_types.specs.Spelling.{be64, optional, version_bytes}
 use Rattle.faust_types.proofs.Order.{is_initial-means}
-use Rattle.faust_wire.specs.Reading.{◌>>=◌, next_bytes, next_timestamp, next_optional, next_digest, next_entries, next_version, entered}
+use Rattle.faust_wire.specs.Reading.{next_bytes, next_timestamp, next_optional, next_digest, next_entries, next_version, entered}
 use Rattle.faust_wire.proofs.Readers.{bind_ok, bind_some, unless_ok, chosen, Takes, takes_then, IsRead, IsReader}
 use Rattle.faust_wire.proofs.SmallParts.{bytes_take, bytes_again, length-be64, timestamp_reader, optional_reader}
 

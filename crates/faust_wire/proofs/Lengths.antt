@@ -1,5 +1,5 @@
 -- How long spellings are at most.
-use Rattle.std.proofs.Common.{◌≡◌, ℕ, zero, suc, ◌+◌, ◌-◌, ◌*◌, ◌<◌, ◌≤◌, Bool, true, false, cond, List, [], ◌∷◌, ◌++◌, length, Option, Some, None, refl, sym, ap, subst, ◌∙◌, arith}
+use Rattle.std.proofs.Common.{◌≡◌, ℕ, ◌+◌, ◌*◌, ◌≤◌, List, [], ◌∷◌, ◌++◌, length, Option, Some, None, arith}
 use Rattle.std.specs.Prelude.{IfSome, flat_map}
 use Rattle.std.specs.List.{AllByRecursion, AllZip}
 use Rattle.std.proofs.lemmas.Bool.{cond_both}
@@ -7,7 +7,7 @@ use Rattle.std.proofs.lemmas.List.{length-append}
 use Rattle.faust_types.specs.Clients.{IsClientCount}
 use Rattle.faust_types.specs.Versions.{Vector, is_initial}
 use Rattle.faust_types.specs.Ranges.{IsDigest, IsValue, IsVersionFor, IsKnownBy, IsAnnouncedFor, IsTupleFor, IsMem, IsReadPartFor, IsReplyFor, IsValueOf, IsSubmitFor, IsCommitFor, IsPeerFor, IsPeerMessageFor, IsMessageFor}
-use Rattle.faust_types.specs.Spelling.{be64, optional, version_bytes, kind_byte, announced, peer_content, peer_front}
+use Rattle.faust_types.specs.Spelling.{be64, optional, version_bytes, announced, peer_content, peer_front}
 use Rattle.faust_types.specs.declared.operation.Kind.{Kind}
 use Rattle.faust_types.specs.declared.operation.Kind.TheVariants.{Write, Read}
 use Rattle.faust_types.specs.declared.message.Known.{Known}

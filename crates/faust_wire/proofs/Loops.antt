@@ -1,10 +1,10 @@
 -- One step of the loops that read entries and items, and their ends.
-use Rattle.std.proofs.Common.{◌≡◌, ℕ, zero, suc, ◌+◌, ◌-◌, ◌*◌, ◌<◌, ◌≤◌, List, [], ◌∷◌, ◌++◌, Option, Some, None, refl, sym, ap, ◌∙◌, arith}
+use Rattle.std.proofs.Common.{◌≡◌, ℕ, suc, ◌+◌, ◌-◌, ◌*◌, ◌<◌, ◌≤◌, List, [], ◌∷◌, ◌++◌, Option, Some, None, refl, sym, ◌∙◌, arith}
 use Rattle.std.proofs.lemmas.List.{length-set}
 use Rattle.faust_types.specs.Versions.{Vector, clients_of, initial}
 use Rattle.faust_wire.specs.declared.error.WireError.{WireError}
 use Rattle.faust_wire.specs.declared.error.WireError.TheVariants as errors
-use Rattle.faust_wire.specs.Reading.{◌>>=◌, Fails, next_bytes, next_timestamp, next_digest, next_entries, next_version, next_items, entered}
+use Rattle.faust_wire.specs.Reading.{Fails, next_bytes, next_timestamp, next_digest, next_entries, next_version, next_items, entered}
 
 pub clients_of-entered : (v : Vector) (k t : ℕ) (d : Option (List ℕ)) → clients_of (entered v k t d) ≡ clients_of v
 clients_of-entered v k t None = refl

@@ -1,13 +1,12 @@
 -- The readers of messages, and the laws of whole texts.
-use Rattle.std.proofs.Common.{◌≡◌, ℕ, zero, suc, ◌+◌, ◌-◌, ◌<◌, ◌≤◌, Bool, true, false, cond, List, [], ◌∷◌, ◌++◌, length, Option, Some, None, Result, Ok, Err, refl, sym, ap, subst, ◌∙◌, append_assoc, arith, inl, inr, ◌↔◌}
-use Rattle.std.specs.Prelude.{IfSome, IfOk, IsSomeAnd, IsNone, nat_lt, ◌==◌, flat_map}
-use Rattle.std.specs.List.{AllByRecursion}
-use Rattle.std.proofs.lemmas.Bool.{true≢false, false≢true, eqb-true, eqb-false, eq-eqb, ne_eqb}
+use Rattle.std.proofs.Common.{◌≡◌, ℕ, true, false, List, [], ◌∷◌, ◌++◌, Option, Some, None, Result, Ok, Err, refl, sym, ap, subst, ◌∙◌, append_assoc, inl, inr}
+use Rattle.std.specs.Prelude.{IfSome, IfOk, ◌==◌, flat_map}
+use Rattle.std.proofs.lemmas.Bool.{true≢false, eqb-true, eqb-false, eq-eqb, ne_eqb}
 use Rattle.std.proofs.lemmas.Option.{same_Some}
 use Rattle.std.proofs.lemmas.List.{append-nil, nil_from_length}
-use Rattle.faust_types.specs.Clients.{IsClientCount, IsClient}
-use Rattle.faust_types.specs.Versions.{Vector, is_initial}
-use Rattle.faust_types.specs.Ranges.{AreBytes, IsDigest, IsValue, IsVersionFor, IsValueOf, IsSubmitFor, IsReplyFor, IsCommitFor, IsPeerFor, IsPeerMessageFor, IsCheck, IsMessageFor}
+use Rattle.faust_types.specs.Clients.{IsClientCount}
+use Rattle.faust_types.specs.Versions.{Vector}
+use Rattle.faust_types.specs.Ranges.{AreBytes, IsDigest, IsVersionFor, IsValueOf, IsSubmitFor, IsReplyFor, IsCommitFor, IsPeerFor, IsPeerMessageFor, IsMessageFor}
 use Rattle.faust_types.specs.Spelling.{be64, optional, version_bytes, kind_byte, peer_byte, peer_content, peer_front}
 use Rattle.faust_types.specs.declared.operation.Kind.{Kind}
 use Rattle.faust_types.specs.declared.operation.Kind.TheVariants.{Write, Read}
@@ -23,10 +22,10 @@ use Rattle.faust_wire.specs.declared.error.WireError.{WireError}
 use Rattle.faust_wire.specs.declared.error.WireError.TheVariants as errors
 use Rattle.faust_wire.specs.Grammar.{signed_bytes, read_part_bytes, written_bytes, submit_bytes, reply_bytes, commit_bytes, peer_bytes, spelling, IsSpellingOf, IsVersionSpelling}
 use Rattle.faust_wire.specs.Reading.{◌>>=◌, Gives, IsReadAs, next_kind, next_up_to, next_number, next_tag, next_value, next_written, next_submit, next_signed, next_pending, next_items, next_optional, next_read_part, optionally, next_reply, next_version, next_commit, next_announced, next_content, next_peer, next_of_kind, next_message, whole, message_of, version_of}
-use Rattle.faust_wire.proofs.Readers.{bind_ok, bind_some, unless_ok, if_ok, chosen, AreBytes-rest, Takes, takes_then, IsRead, IsReader, items_reader}
+use Rattle.faust_wire.proofs.Readers.{bind_ok, bind_some, unless_ok, if_ok, chosen, AreBytes-rest, takes_then, IsRead, IsReader, items_reader}
 use Rattle.faust_wire.proofs.SmallParts.{tag_reader, optional_reader, client_reader, kind_reader, number_reader, value_reader}
 use Rattle.faust_wire.proofs.Entries.{version_reader}
-use Rattle.faust_wire.proofs.Composites.{signed_reader, announced_reader, ArePending, pending_text, pending_reader, read_part_reader}
+use Rattle.faust_wire.proofs.Composites.{signed_reader, announced_reader, pending_text, pending_reader, read_part_reader}
 
 -- ---- SUBMIT
 

@@ -1,8 +1,8 @@
 -- The readers of the smallest pieces.
-use Rattle.std.proofs.Common.{◌≡◌, ◌≢◌, ℕ, zero, suc, ◌+◌, ◌-◌, ◌*◌, ◌^◌, ◌<◌, ◌≤◌, Bool, true, false, cond, ltb, List, [], ◌∷◌, ◌++◌, length, get_or, take, drop, Option, Some, None, refl, sym, ap, subst, ◌∙◌, append_assoc, arith, inl, inr}
+use Rattle.std.proofs.Common.{◌≡◌, ◌≢◌, ℕ, ◌^◌, ◌<◌, ◌≤◌, false, cond, ltb, List, [], ◌∷◌, ◌++◌, length, Option, Some, None, refl, sym, ap, subst, ◌∙◌, append_assoc, arith, inl, inr}
 use Rattle.std.specs.Prelude.{IfSome, nat_lt, ◌==◌, ◌||◌}
 use Rattle.std.specs.Int.{w16, w64, from_be_bytes, to_be_bytes}
-use Rattle.std.proofs.lemmas.Bool.{ltb-true, ltb-false, lt-ltb, le-ltb, eqb-true, eqb-false, eq-eqb, ne_eqb, or_parts, or_from}
+use Rattle.std.proofs.lemmas.Bool.{ltb-true, ltb-false, lt-ltb, le-ltb, eqb-true, eqb-false, ne_eqb, or_parts, or_from}
 use Rattle.std.proofs.lemmas.Option.{same_Some, cond_some}
 use Rattle.std.proofs.lemmas.List.{take_at, drop_at, take-append-drop, length-append, length-take}
 use Rattle.std.proofs.lemmas.Nat.{be_bytes_2, be_bytes_8, from_be_bytes-to_be_bytes_2, from_be_bytes-to_be_bytes_8}
@@ -12,7 +12,7 @@ use Rattle.faust_types.specs.Spelling.{be64, optional, kind_byte}
 use Rattle.faust_types.specs.declared.operation.Kind.{Kind}
 use Rattle.faust_types.specs.declared.operation.Kind.TheVariants.{Write, Read}
 use Rattle.faust_wire.specs.Grammar.{value_bytes, optional_value_bytes}
-use Rattle.faust_wire.specs.Reading.{◌>>=◌, next_byte, next_bytes, next_up_to, next_kind, next_timestamp, next_number, next_tag, next_optional, next_value, next_written, optionally}
+use Rattle.faust_wire.specs.Reading.{next_bytes, next_up_to, next_kind, next_timestamp, next_number, next_tag, next_optional, next_value, optionally}
 use Rattle.faust_wire.proofs.Readers.{bind_ok, bind_some, unless_ok, chosen, AreBytes-drop, AreBytes-take, AreBytes-rest, Takes, takes_then, IsRead, IsReader, optionally_reader}
 
 pub record IsCut (len : ℕ) (bytes : List ℕ) (x : List ℕ × List ℕ) : Type 0 where

@@ -1,6 +1,6 @@
 -- The bytes of each piece and of each message, in the order of the tables of docs/formats.md. `wire` is the
 -- byte of the wire's version, which is 1.
-use Rattle.std.specs.Prelude.{◌≡◌, ℕ, Bool, true, false, cond, List, [], ◌∷◌, ◌++◌, length, Option, Some, None, flat_map}
+use Rattle.std.specs.Prelude.{◌≡◌, ℕ, cond, List, [], ◌∷◌, ◌++◌, length, Option, Some, None, flat_map}
 use Rattle.std.specs.Int.{to_be_bytes, w16}
 use Rattle.faust_types.specs.Versions.{Vector, is_initial}
 use Rattle.faust_types.specs.Spelling.{be64, optional, version_bytes, kind_byte, peer_front}

@@ -1,6 +1,7 @@
 -- Reading from left to right. Each `next_` answers the piece that stands at the front of the bytes with the
--- bytes after it, or none where no such piece stands there.
-use Rattle.std.specs.Prelude.{◌≡◌, ℕ, zero, suc, ◌+◌, ◌*◌, ◌^◌, Bool, true, false, ◌&&◌, ◌||◌, not, List, [], ◌∷◌, ◌++◌, length, take, drop, replicate, Option, Some, None, is_none, Result, Ok, Err, nat_lt, nat_le, ◌==◌, if◌then◌else◌}
+-- bytes after it, or none where no such piece stands there. The last two, `message_of` and `version_of`, read all
+-- of the bytes; `laws` says that they read exactly what the grammar spells.
+use Rattle.std.specs.Prelude.{◌≡◌, ℕ, zero, suc, ◌+◌, ◌*◌, ◌^◌, Bool, true, false, ◌||◌, List, [], ◌∷◌, ◌++◌, length, take, drop, replicate, Option, Some, None, is_none, Result, Ok, Err, nat_lt, ◌==◌, if◌then◌else◌}
 use Rattle.std.specs.Int.{from_be_bytes, w16, w64}
 use Rattle.faust_types.specs.Versions.{Vector, initial, is_initial, with_entry}
 use Rattle.faust_types.specs.declared.operation.Kind.{Kind}

@@ -1,4 +1,3 @@
-ghost use Rattle.std.specs.Prelude.{◌≡◌, ℕ, ◌≤◌, List, [], length, IfOk};
 ghost use Rattle.faust_types.specs.Clients.{IsClientCount};
 ghost use Rattle.faust_wire.specs.Reading.{Gives, next_written, next_submit, next_reply, next_commit, next_announced, next_content, next_peer, next_of_kind, next_message};
 

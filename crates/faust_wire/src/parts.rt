@@ -1,4 +1,4 @@
-ghost use Rattle.std.specs.Prelude.{◌≡◌, ℕ, ◌+◌, ◌^◌, ◌<◌, ◌≤◌, length, take, drop, IfOk};
+ghost use Rattle.std.specs.Prelude.{◌^◌, ◌<◌, IfOk};
 ghost use Rattle.faust_wire.specs.Reading.{Gives, next_byte, next_bytes, next_flag, next_up_to, next_kind, next_timestamp, next_number, next_tag, next_optional, next_value, optionally};
 
 use crate::error::WireError;

@@ -1,4 +1,4 @@
-ghost use Rattle.std.specs.Prelude.{◌≡◌, ℕ, ◌≤◌, List, [], length, IfOk};
+ghost use Rattle.std.specs.Prelude.{[]};
 ghost use Rattle.faust_types.specs.Clients.{IsClientCount};
 ghost use Rattle.faust_wire.specs.Reading.{Gives, next_items, next_tuple, next_pending, next_optional, next_mem, next_read_part, optionally};
 

@@ -1,4 +1,4 @@
-ghost use Rattle.std.specs.Prelude.{◌≡◌, ◌≤◌, List, ◌∷◌, ◌++◌, length, flat_map, OnOk, IfSome, Option};
+ghost use Rattle.std.specs.Prelude.{◌≡◌, ◌≤◌, ◌∷◌, ◌++◌, length, flat_map, OnOk, IfSome};
 ghost use Rattle.faust_types.specs.Spelling.{be64, optional, kind_byte, announced, peer_byte, peer_content};
 ghost use Rattle.faust_wire.specs.Grammar.{signed_bytes, value_bytes, optional_value_bytes, memory_bytes, tuple_bytes, read_part_bytes, written_bytes};
 

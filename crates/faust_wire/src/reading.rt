@@ -1,4 +1,4 @@
-ghost use Rattle.std.specs.Prelude.{◌≡◌, ℕ, ◌≤◌, List, [], length, IfOk};
+ghost use Rattle.std.specs.Prelude.{IfOk};
 ghost use Rattle.faust_types.specs.Clients.{IsClientCount};
 ghost use Rattle.faust_types.specs.Versions.{Vector};
 ghost use Rattle.faust_types.specs.declared.message.Message.{Message};
@@ -31,6 +31,7 @@ pub fn decode(alloc: Global, n: u8, bytes: &[u8]) -> Result<Message, WireError>
     ensures found { IfOk result (IsSpellingOf n bytes.now) }
     // What is spelled so is answered, unless memory runs out.
     ensures only { (message : Message) → IsSpellingOf n bytes.now message → IsReadAs result message }
+    // The same as a function of the bytes.
     ensures value { Gives (λ x. x) result (message_of 1 n bytes.now) }
 {
     whole_message(alloc, n, bytes)

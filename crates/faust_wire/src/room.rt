@@ -1,5 +1,5 @@
 //! Room for spellings, so that one allocation serves each.
-ghost use Rattle.std.specs.Prelude.{◌≡◌, ◌+◌, ◌*◌, ◌≤◌, length, IfSome, Option};
+ghost use Rattle.std.specs.Prelude.{◌≡◌, ◌+◌, ◌*◌, ◌≤◌, length, IfSome};
 ghost use Rattle.faust_types.specs.Ranges.{IsValue, IsMem, IsReadPartFor, IsSubmitFor, IsReplyFor, IsCommitFor, IsPeerFor, IsPeerMessageFor};
 ghost use Rattle.faust_types.specs.Spelling.{peer_content};
 ghost use Rattle.faust_types.specs.declared.message.Commit.{Commit};

@@ -299,7 +299,7 @@ fn a_commit_is_spelled_from_its_parts(rt: HostRuntime) -> Result<(), Fail> {
     let bytes = joined(rt.alloc(), VERSION)?;
     let version = read_version(rt.alloc(), 2, bytes.as_slice())?;
     assert_eq!(rt;
-        encode_commit(rt.alloc(), 2, &version, &[7; 32], &[7; 32])?.as_slice(),
+        encode_commit(rt.alloc(), &version, &[7; 32], &[7; 32])?.as_slice(),
         joined(rt.alloc(), COMMIT)?.as_slice()
     );
     Ok(())

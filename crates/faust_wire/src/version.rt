@@ -1,6 +1,6 @@
-ghost use Rattle.std.specs.Prelude.{◌≡◌, ℕ, ◌+◌, ◌^◌, ◌<◌, ◌≤◌, ◌↔◌, IsNone, IfOk, IfSome, Option};
+ghost use Rattle.std.specs.Prelude.{◌≡◌, ◌^◌, ◌<◌, ◌↔◌, IsNone, IfOk};
 ghost use Rattle.faust_types.specs.Clients.{IsClientCount, IsClient};
-ghost use Rattle.faust_types.specs.Versions.{Vector, clients_of};
+ghost use Rattle.faust_types.specs.Versions.{clients_of};
 ghost use Rattle.faust_wire.specs.Reading.{Gives, next_digest, next_version, next_known, next_signed, entered, unsigned};
 
 use crate::error::WireError;

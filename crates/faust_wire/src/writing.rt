@@ -1,4 +1,4 @@
-ghost use Rattle.std.specs.Prelude.{◌≡◌, ◌++◌, IfOk, OnOk};
+ghost use Rattle.std.specs.Prelude.{◌≡◌, IfOk};
 ghost use Rattle.faust_types.specs.Ranges.{IsMessageFor, IsSubmitFor, IsReplyFor, IsPeerMessageFor};
 ghost use Rattle.faust_wire.specs.Grammar.{submit_bytes, reply_bytes, commit_bytes, peer_bytes, hello_bytes, spelling};
 
@@ -21,7 +21,6 @@ pub fn encode(alloc: Global, n: u8, message: &Message) -> Result<Bytes, OutOfMem
         Message::Reply(reply) => encode_reply(alloc, n, reply),
         Message::Commit(commit) => encode_commit(
             alloc,
-            n,
             &commit.version,
             &commit.commit_tag,
             &commit.proof_tag,
@@ -66,11 +65,10 @@ fn encode_reply(alloc: Global, n: u8, reply: &Reply) -> Result<Bytes, OutOfMemor
     Ok(out)
 }
 
-/// The spelling of a COMMIT with this version and these tags.
+/// The spelling of a COMMIT with this version and these tags, without a message of its own.
 #[tactic(auto, unfolding(crate::specs::Grammar::commit_bytes))]
 pub fn encode_commit(
     alloc: Global,
-    n: u8,
     version: &Version,
     commit_tag: &Tag,
     proof_tag: &Tag,
@@ -78,7 +76,7 @@ pub fn encode_commit(
     ensures { IfOk result (λ bytes. bytes ≡ commit_bytes 1 (record { version = version.now; commit_tag = commit_tag.now; proof_tag = proof_tag.now })) }
 {
     let mut out = Bytes::new(alloc);
-    out.reserve(room_for_commit(n))?;
+    out.reserve(room_for_commit(version.clients()))?;
     out.append(&[WIRE_VERSION, COMMIT])?;
     version.put(&mut out)?;
     out.append(commit_tag)?;

@@ -1,6 +1,4 @@
 use Rattle.std.proofs.Common.{arith}
-use Rattle.faust_wire.specs.Grammar.{IsSpellingOf, IsVersionSpelling}
-use Rattle.faust_wire.specs.Reading.{message_of, version_of}
 use Rattle.faust_wire.proofs.Messages.{message_found, message_only, given_found, given_only}
 use Rattle.faust_wire.proofs.reading.decode.Goals as goal
 

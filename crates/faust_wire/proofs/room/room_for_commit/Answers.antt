@@ -1,4 +1,4 @@
-use Rattle.std.proofs.Common.{◌≡◌, ◌+◌, ◌≤◌, arith}
+use Rattle.std.proofs.Common.{arith}
 use Rattle.faust_wire.proofs.Lengths.{length-commit}
 use Rattle.faust_wire.proofs.room.room_for_commit.Goals as goal
 
