@@ -7,13 +7,16 @@ ghost use Rattle.faust_wire.specs.Grammar.{submit_bytes, reply_bytes, commit_byt
 
 use faust_types::{Bytes, Mem, Peer, PeerMessage, ReadPart, Reply, Submit};
 
-// The bytes of a timestamp, of a tag or digest, of one behind a flag, and of a tuple.
+// The bytes of a timestamp.
 const NUMBER_LEN: usize = 8;
 
+// The bytes of a tag or a digest.
 const TAG_LEN: usize = 32;
 
+// The bytes of a tag or a digest behind its flag.
 const OPTIONAL_LEN: usize = 1 + TAG_LEN;
 
+// The bytes of a tuple: client, kind, register and tag.
 const TUPLE_LEN: usize = 3 + TAG_LEN;
 
 fn room_for_version(n: u8) -> usize
