@@ -1,0 +1,4 @@
+pub mod Checks
+pub mod Passed
+pub mod Hashed
+pub mod InRange
