@@ -5,9 +5,10 @@ use Rattle.std.proofs.lemmas.List.{get_or-set_other, get_or-replicate, get_or_pa
 use Rattle.std.proofs.lemmas.Grind.{get_or-set_at}
 use Rattle.std.proofs.lemmas.List.Elements.{All-from_recursion, recursion_from_All, All-replicate, All-set}
 use Rattle.std.specs.List.{AllByRecursion}
-use Rattle.faust_types.proofs.Order.{zeros-from}
+use Rattle.faust_types.proofs.Order.{is_initial-means}
+use Rattle.faust_types.proofs.Entries.{in_range-initial}
 use Rattle.faust_types.specs.Clients.{IsClientCount, IsClient}
-use Rattle.faust_types.specs.Versions.{Vector, initial, clients_of, timestamp_at, digest_at, is_initial}
+use Rattle.faust_types.specs.Versions.{initial, is_initial}
 use Rattle.faust_types.specs.Ranges.{AreBytes, IsDigest, IsValue, IsVersionFor, IsKnownBy, IsTupleFor, IsMem, IsReadPartFor, IsReplyFor, IsValueOf, IsSubmitFor, IsCommitFor}
 use Rattle.faust_types.specs.declared.operation.Kind.{Kind}
 use Rattle.faust_types.specs.declared.operation.Kind.TheVariants.{Write, Read}
@@ -172,51 +173,24 @@ IsStateFor-retaken n st i last uncommitted h client below = record {
 }
 
 -- the first state has it
-pub zero_bytes : (k i : ℕ) → slice_index (replicate k 0) i < 256
-zero_bytes k i =
-    let zero : ℕ = 0 in
-    elim (cases_lt i k) [
-      | inl lt ↦ omega (arith, get_or-replicate k i zero zero lt)
-      | inr ge ↦ omega (arith, get_or_past (replicate k zero) i zero (omega (arith, length-replicate k zero)))
-    ]
+pub AreBytes-replicate : (k b : ℕ) → b < 256 → AreBytes (replicate k b)
+AreBytes-replicate k b below i = elim (cases_lt i k) [
+  | inl lt ↦ omega (arith, get_or-replicate k i b 0 lt)
+  | inr ge ↦ omega (arith, get_or_past (replicate k b) i 0 (omega (arith, length-replicate k b)))
+]
 
-pub zero_tag : IsDigest (replicate 32 0)
-zero_tag = record { sized = refl; bytes_each = zero_bytes 32 }
+pub IsDigest-replicate : (b : ℕ) → b < 256 → IsDigest (replicate 32 b)
+IsDigest-replicate b below = record { sized = refl; bytes_each = AreBytes-replicate 32 b below }
 
-pub timestamp_at-initial : (n k : ℕ) → IsClient n k → timestamp_at (initial n) k ≡ 0
-timestamp_at-initial n k within = get_or-replicate n (k - 1) 0 0 (omega (arith, within.from_one, within.to_n))
-
-pub digest_at-initial : (n k : ℕ) → IsClient n k → digest_at (initial n) k ≡ None
-digest_at-initial n k within = get_or-replicate n (k - 1) None None (omega (arith, within.from_one, within.to_n))
-
-pub IsVersionFor-initial : (n : ℕ) → IsClientCount n → IsVersionFor n (initial n)
-IsVersionFor-initial n count =
-    let clients : clients_of (initial n) ≡ n = length-replicate n 0 in
-    let times : (k : ℕ) → IsClient (clients_of (initial n)) k → timestamp_at (initial n) k ≡ 0 = λ k within. timestamp_at-initial n k (subst (λ (z : ℕ). IsClient z k) clients within) in
-    let digests : (k : ℕ) → IsClient (clients_of (initial n)) k → digest_at (initial n) k ≡ None = λ k within. digest_at-initial n k (subst (λ (z : ℕ). IsClient z k) clients within) in
-    record {
-      count = clients;
-      kept = record {
-        count = subst IsClientCount (sym clients) count;
-        paired = length-replicate n None ∙ sym clients;
-        below = λ k within. omega (arith, times k within);
-        absent = λ k within. (λ h. times k within, λ h. subst (λ (d : Option (List ℕ)). IsNone d) (sym (digests k within)) refl);
-      };
-      sized = λ k within. subst (λ (d : Option (List ℕ)). IfSome d IsDigest) (sym (digest_at-initial n k within)) tt;
-    }
-
-pub is_initial-initial : (n : ℕ) → is_initial (initial n) ≡ true
-unfolding is_initial
-is_initial-initial n =
-    let clients : clients_of (initial n) ≡ n = length-replicate n 0 in
-    zeros-from (initial n) (clients_of (initial n)) (λ k within. timestamp_at-initial n k (subst (λ (z : ℕ). IsClient z k) clients within))
+pub is_initial-initial : (n : ℕ) → IsClientCount n → is_initial (initial n) ≡ true
+is_initial-initial n count = (is_initial-means (initial n) (in_range-initial n count).kept).1 (ap initial (sym (length-replicate n 0)))
 
 pub IsKnownBy-unmade : (n k : ℕ) → IsClientCount n → IsKnownBy n k (unmade n)
 IsKnownBy-unmade n k count = record {
-  version_in_range = IsVersionFor-initial n count;
-  tag_sized = zero_tag;
+  version_in_range = in_range-initial n count;
+  tag_sized = IsDigest-replicate 0 (omega arith);
   unsigned = λ is. (refl, refl);
-  signed = λ is_not. absurd (true≢false (sym (is_initial-initial n) ∙ is_not));
+  signed = λ is_not. absurd (true≢false (sym (is_initial-initial n count) ∙ is_not));
 }
 
 pub IsStateFor-first : (n : ℕ) → IsClientCount n → IsStateFor n (first_state n)

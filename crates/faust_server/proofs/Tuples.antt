@@ -1,7 +1,7 @@
 -- Lists of tuples: how many of one client they have, and how long they can be.
-use Rattle.std.proofs.Common.{◌≡◌, ℕ, ◌+◌, ◌<◌, ◌≤◌, ◌==◌, zero, suc, Bool, true, false, not, if◌then◌else◌, Option, Some, None, List, [], ◌∷◌, ◌++◌, length, filter, drop, position, refl, sym, ap, ◌∙◌, subst, inl, inr, arith}
-use Rattle.std.proofs.lemmas.Bool.{cond-true, cond-false, eq-eqb, ne_eqb, eqb-true, eqb-false, cases_eq, cases_Bool}
-use Rattle.std.specs.List.{AllByRecursion}
+use Rattle.std.proofs.Common.{◌≡◌, ℕ, ◌+◌, ◌<◌, ◌≤◌, ◌==◌, zero, suc, Bool, true, false, not, if◌then◌else◌, Option, Some, None, List, [], ◌∷◌, ◌++◌, length, filter, drop, position, nat_lt, length-append, refl, sym, ap, ◌∙◌, subst, inl, inr, arith}
+use Rattle.std.proofs.lemmas.Bool.{cond-true, cond-false, eq-eqb, ne_eqb, lt-ltb, le-ltb, cases_eq}
+use Rattle.std.specs.List.{AllByRecursion, position_or_len}
 use Rattle.faust_types.specs.Clients.{IsClient}
 use Rattle.faust_types.specs.Ranges.{IsTupleFor}
 use Rattle.faust_types.specs.declared.message.Tuple.{Tuple}
@@ -80,6 +80,58 @@ tuples_of-behind_place-le k (Some place) xs = tuples_of-drop-le k (place + 1) xs
 
 pub tuples_of-behind-le : (k i : ℕ) (xs : List Tuple) → tuples_of k (behind i xs) ≤ tuples_of k xs
 tuples_of-behind-le k i xs = tuples_of-behind_place-le k (position (λ (tuple : Tuple). tuple.client == i) xs) xs
+
+-- what leaves the list, in plain words
+pub without-none : (i : ℕ) (xs : List Tuple) → tuples_of i xs ≡ 0 → without i xs ≡ xs
+without-none i [] none = refl
+without-none i (x ∷ xs) none = elim (cases_eq x.client i) [
+  | inl e ↦ absurd (omega (arith, none, tuples_of-own i x xs e))
+  | inr ne ↦ without-other i x xs ne ∙ ap (λ (rest : List Tuple). x ∷ rest) (without-none i xs (omega (arith, none, tuples_of-other i x xs ne)))
+]
+
+first_place : (i : ℕ) (before : List Tuple) (tuple : Tuple) (rest : List Tuple) → tuples_of i before ≡ 0 → tuple.client ≡ i → position_or_len (λ (x : Tuple). x.client == i) (before ++ tuple ∷ rest) ≡ length before
+first_place i [] tuple rest none e = cond-false _ _ _ (ap not (eq-eqb _ _ e))
+first_place i (x ∷ xs) tuple rest none e = elim (cases_eq x.client i) [
+  | inl q ↦ absurd (omega (arith, none, tuples_of-own i x xs q))
+  | inr ne ↦
+      let more = first_place i xs tuple rest (omega (arith, none, tuples_of-other i x xs ne)) e in
+      let here : position_or_len (λ (x : Tuple). x.client == i) (x ∷ (xs ++ tuple ∷ rest)) ≡ 1 + position_or_len (λ (x : Tuple). x.client == i) (xs ++ tuple ∷ rest) = cond-true _ _ _ (ap not (ne_eqb _ _ ne)) in
+      omega (arith, here, more)
+]
+
+no_place : (i : ℕ) (xs : List Tuple) → tuples_of i xs ≡ 0 → position_or_len (λ (x : Tuple). x.client == i) xs ≡ length xs
+no_place i [] none = refl
+no_place i (x ∷ xs) none = elim (cases_eq x.client i) [
+  | inl q ↦ absurd (omega (arith, none, tuples_of-own i x xs q))
+  | inr ne ↦
+      let more = no_place i xs (omega (arith, none, tuples_of-other i x xs ne)) in
+      let here : position_or_len (λ (x : Tuple). x.client == i) (x ∷ xs) ≡ 1 + position_or_len (λ (x : Tuple). x.client == i) xs = cond-true _ _ _ (ap not (ne_eqb _ _ ne)) in
+      omega (arith, here, more)
+]
+
+drop_past : (before : List Tuple) (tuple : Tuple) (rest : List Tuple) → drop (length before + 1) (before ++ tuple ∷ rest) ≡ rest
+drop_past [] tuple rest = refl
+drop_past (x ∷ xs) tuple rest =
+    let shift : length (x ∷ xs) + 1 ≡ suc (length xs + 1) = omega arith in
+    ap (λ (n : ℕ). drop n (x ∷ (xs ++ tuple ∷ rest))) shift ∙ drop_past xs tuple rest
+
+-- the first tuple of client i leaves with all before it
+pub behind-first : (i : ℕ) (before : List Tuple) (tuple : Tuple) (rest : List Tuple) → tuples_of i before ≡ 0 → tuple.client ≡ i → behind i (before ++ tuple ∷ rest) ≡ rest
+behind-first i before tuple rest none e =
+    let xs = before ++ tuple ∷ rest in
+    let at : position_or_len (λ (x : Tuple). x.client == i) xs ≡ length before = first_place i before tuple rest none e in
+    let within : length before < length xs = omega (arith, length-append before (tuple ∷ rest)) in
+    let found : position (λ (x : Tuple). x.client == i) xs ≡ Some (length before) =
+    subst (λ (p : ℕ). (if nat_lt p (length xs) then Some p else None) ≡ Some (length before)) (sym at) (cond-true _ _ _ (lt-ltb _ _ within)) in
+    ap (λ (place : Option ℕ). behind_place place xs) found ∙ drop_past before tuple rest
+
+-- where there is none, all stay
+pub behind-none : (i : ℕ) (xs : List Tuple) → tuples_of i xs ≡ 0 → behind i xs ≡ xs
+behind-none i xs none =
+    let at : position_or_len (λ (x : Tuple). x.client == i) xs ≡ length xs = no_place i xs none in
+    let found : position (λ (x : Tuple). x.client == i) xs ≡ None =
+    subst (λ (p : ℕ). (if nat_lt p (length xs) then Some p else None) ≡ None) (sym at) (cond-false _ _ _ (le-ltb (length xs) (length xs) (omega arith))) in
+    ap (λ (place : Option ℕ). behind_place place xs) found
 
 -- what each tuple keeps
 pub All-push : {X : Type 0} (P : X → Type 0) (xs : List X) (x : X) → AllByRecursion P xs → P x → AllByRecursion P (xs ++ x ∷ [])

@@ -319,3 +319,6 @@ fn refreshed(held: Option<Mem>, t: u64, tag: Tag) -> Mem
     };
     Mem { t, value, tag }
 }
+
+#[cfg(test)]
+mod tests;
