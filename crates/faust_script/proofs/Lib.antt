@@ -1,0 +1,5 @@
+pub mod ParseLaws
+pub mod EventLaws
+pub mod ScriptLaws
+pub mod RefusalLaws
+pub mod GoingOn

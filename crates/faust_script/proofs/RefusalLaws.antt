@@ -1,0 +1,288 @@
+-- Refused lines and their causes.
+use Rattle.std.proofs.Common.{◌≡◌, ℕ, ◌+◌, ◌-◌, ◌<◌, ◌≤◌, suc, Bool, true, false, cond, leb, ltb, List, [], ◌∷◌, ◌++◌, length, take, drop, Option, Some, None, Result, Ok, Err, refl, sym, ap, ◌∙◌, subst, ◌↔◌, ◌⊎◌, ◌≢◌, inl, inr, arith, append_assoc, length-append}
+use Rattle.std.specs.Prelude.{codes}
+use Rattle.std.specs.Str.{bytes_eq}
+use Rattle.std.proofs.lemmas.Bool.{cases_Bool, cond-true, cond-false, le-ltb, lt-ltb, ltb-true, ltb-false, leb-true, leb-false, le-leb, lt-leb, both_ways, false_from_ne_true}
+use Rattle.std.proofs.lemmas.List.{length-take-le, take-append-drop}
+use Rattle.std.proofs.lemmas.Slice.Eq.{bytes_eq-Decides}
+use Rattle.faust_text.specs.declared.cause.Cause.{Cause}
+use Rattle.faust_text.specs.declared.cause.Cause.TheVariants as causes
+use Rattle.faust_text.specs.declared.head.Head.{Head}
+use Rattle.faust_text.specs.declared.head.Head.TheVariants as heads
+use Rattle.faust_text.specs.declared.head.HeadStep.{HeadStep}
+use Rattle.faust_text.specs.declared.head.HeadStep.TheVariants as steps
+use Rattle.faust_text.specs.Fields.{Field, AllGiven, kind, value, bytes, field_at, fields_at, next_field, ◌>>=◌}
+use Rattle.faust_text.specs.Heads.{clients_form, key_form, delta_form, dummy_form, head_at}
+use Rattle.faust_text.specs.Lines.{TextLine, lines_of, whole_line}
+use Rattle.faust_text.specs.Spelled.{IsFault, IsFirstFault, SpellsField}
+use Rattle.faust_text.specs.Tokens.{tokens_of}
+use Rattle.faust_text.proofs.FieldLaws.{bind_ok, bind_err, field_faults, field_spells, fields_fault, ok_same}
+use Rattle.faust_script.specs.declared.event.Event.{Event}
+use Rattle.faust_script.specs.declared.event.Event.TheVariants as event
+use Rattle.faust_script.specs.declared.edit.Edit.{Edit}
+use Rattle.faust_script.specs.declared.edit.Edit.TheVariants as edit
+use Rattle.faust_script.specs.declared.script.Script.{Script}
+use Rattle.faust_script.specs.declared.stage.Stage.{Stage}
+use Rattle.faust_script.specs.declared.stage.Stage.TheVariants as stages
+use Rattle.faust_script.specs.declared.word.EventWord.{EventWord}
+use Rattle.faust_script.specs.declared.word.EventWord.TheVariants as words
+use Rattle.faust_script.specs.declared.word.EditWord.{EditWord}
+use Rattle.faust_script.specs.declared.word.EditWord.TheVariants as edit_words
+use Rattle.faust_script.specs.Forms.{client, place, branch, moment, timestamp, edit_by, edit_named, edit_at, client_and_edit_at, event_by, event_named, event_at}
+use Rattle.faust_script.specs.Parsing.{Refusal, after_head, and_then_lines, finished, lines_from, parsed, stage_at, text_at, title_form, with_event}
+use Rattle.faust_script.specs.Refusals.{IsEditFault, IsEditFaultOf, IsEditingFault, IsEventFault, IsEventFaultOf, IsTextFault, IsLineFault, IsNotEnded, IsRefusedThere, IsRefused, CanGoOn, reached}
+use Rattle.faust_script.specs.Words.{event_word, edit_word}
+
+-- What is made of what a reading gives is refused as the reading is.
+made_err : {A B : Type 0} (r : Result A Cause) (make : A → B) (cause : Cause) → (let f : A → Result B Cause = λ given. Ok (make given) in (r >>= f) ≡ Err cause) ↔ (r ≡ Err cause)
+made_err (Ok x) make cause = (λ found. absurd (cc), λ is. absurd (cc))
+made_err (Err e) make cause = (λ found. cc, λ is. cc)
+
+faulty : {B : Type 0} (fields : List Field) (make : AllGiven fields → B) (tokens : List (List ℕ)) (cause : Cause) → (let f : AllGiven fields → Result B Cause = λ given. Ok (make given) in (fields_at fields tokens >>= f) ≡ Err cause) ↔ IsFirstFault fields tokens cause
+faulty fields make tokens cause =
+    let there = made_err (fields_at fields tokens) make cause in
+    let law = fields_fault fields tokens cause in
+    (λ found. law.0 (there.0 found), λ is. there.1 (law.1 is))
+
+-- Edits.
+edit_by-fault : (n : ℕ) (word : EditWord) (tokens : List (List ℕ)) (cause : Cause) → (edit_by n word tokens ≡ Err cause) ↔ IsEditFaultOf n (Some word) tokens cause
+unfolding edit_by
+edit_by-fault n edit_words.C tokens cause = faulty (client n ∷ []) (λ given. edit.C given.0) tokens cause
+edit_by-fault n edit_words.V tokens cause = faulty (client n ∷ timestamp ∷ []) (λ given. edit.V given.0 given.1.0) tokens cause
+edit_by-fault n edit_words.M tokens cause = faulty (client n ∷ []) (λ given. edit.M given.0) tokens cause
+edit_by-fault n edit_words.Ctag tokens cause = faulty ([]) (λ given. edit.Ctag) tokens cause
+edit_by-fault n edit_words.Add tokens cause = faulty (client n ∷ kind ∷ client n ∷ []) (λ given. edit.Add given.0 given.1.0 given.1.1.0) tokens cause
+edit_by-fault n edit_words.DropTuple tokens cause = faulty (place ∷ []) (λ given. edit.DropTuple given.0) tokens cause
+edit_by-fault n edit_words.Swap tokens cause = faulty (place ∷ []) (λ given. edit.Swap given.0) tokens cause
+edit_by-fault n edit_words.Ltag tokens cause = faulty (place ∷ []) (λ given. edit.Ltag given.0) tokens cause
+edit_by-fault n edit_words.Proof tokens cause = faulty (client n ∷ []) (λ given. edit.Proof given.0) tokens cause
+edit_by-fault n edit_words.Noproof tokens cause = faulty (client n ∷ []) (λ given. edit.Noproof given.0) tokens cause
+edit_by-fault n edit_words.Jv tokens cause = faulty (client n ∷ timestamp ∷ []) (λ given. edit.Jv given.0 given.1.0) tokens cause
+edit_by-fault n edit_words.Jtag tokens cause = faulty ([]) (λ given. edit.Jtag) tokens cause
+edit_by-fault n edit_words.T tokens cause = faulty (timestamp ∷ []) (λ given. edit.T given.0) tokens cause
+edit_by-fault n edit_words.Value tokens cause = faulty (value ∷ []) (λ given. edit.Value given.0) tokens cause
+edit_by-fault n edit_words.Dtag tokens cause = faulty ([]) (λ given. edit.Dtag) tokens cause
+edit_by-fault n edit_words.Unread tokens cause = faulty ([]) (λ given. edit.Unread) tokens cause
+
+edit_named-fault : (n : ℕ) (o : Option EditWord) (tokens : List (List ℕ)) (cause : Cause) → (edit_named n o tokens ≡ Err cause) ↔ IsEditFaultOf n o tokens cause
+edit_named-fault n None tokens cause = (λ found. cc, λ is. ap Err (sym is))
+edit_named-fault n (Some word) tokens cause = edit_by-fault n word tokens cause
+
+edit_at-fault : (n : ℕ) (tokens : List (List ℕ)) (cause : Cause) → (edit_at n tokens ≡ Err cause) ↔ IsEditFault n tokens cause
+unfolding edit_at
+edit_at-fault n [] cause = (λ found. cc, λ is. ap Err (sym is))
+edit_at-fault n (token ∷ tokens) cause = edit_named-fault n (edit_word token) tokens cause
+
+abbrev and_edit : ℕ → ℕ × List (List ℕ) → Result (ℕ × Edit) Cause
+and_edit n given = edit_at n given.1 >>= λ e. Ok (given.0, e)
+
+abbrev and_tokens : List (List ℕ) → ℕ → Result (ℕ × List (List ℕ)) Cause
+and_tokens tokens i = Ok (i, tokens)
+
+editing-fault : (n : ℕ) (tokens : List (List ℕ)) (cause : Cause) → (client_and_edit_at n tokens ≡ Err cause) ↔ IsEditingFault n tokens cause
+editing-fault n [] cause = (λ found. cc, λ is. ap Err (sym is))
+editing-fault n (token ∷ tokens) cause = (
+  λ found. elim (bind_err (field_at (client n) token >>= and_tokens tokens) (and_edit n) cause found) [
+      inl there ↦ inl ((field_faults (client n) token cause).0 ((made_err (field_at (client n) token) (λ i. (i, tokens)) cause).0 there))
+    | inr behind ↦
+        let field = bind_ok (field_at (client n) token) (and_tokens tokens) behind.0 behind.1 in
+        let same : (field.0, tokens) ≡ behind.0 = ok_same (field.0, tokens) behind.0 field.2 in
+        let edit_err = (made_err (edit_at n behind.0.1) (λ e. (behind.0.0, e)) cause).0 behind.2 in
+        inr (field.0, (field_spells (client n) token field.0).0 field.1, (edit_at-fault n tokens cause).0 (ap (λ p. edit_at n p.1) same ∙ edit_err))
+    ],
+  λ is.
+    let out : ((field_at (client n) token >>= and_tokens tokens) >>= and_edit n) ≡ Err cause = elim is [
+      inl there ↦ ap (λ r. (r >>= and_tokens tokens) >>= and_edit n) ((field_faults (client n) token cause).1 there)
+    | inr behind ↦
+        ap (λ r. (r >>= and_tokens tokens) >>= and_edit n) ((field_spells (client n) token behind.0).1 behind.1)
+        ∙ (made_err (edit_at n tokens) (λ e. (behind.0, e)) cause).1 ((edit_at-fault n tokens cause).1 behind.2)
+    ] in out,
+)
+
+-- Events.
+event_by-fault : (n : ℕ) (word : EventWord) (tokens : List (List ℕ)) (cause : Cause) → (event_by n word tokens ≡ Err cause) ↔ IsEventFaultOf n (Some word) tokens cause
+unfolding event_by
+event_by-fault n words.Write tokens cause = faulty (client n ∷ value ∷ []) (λ given. event.Write given.0 given.1.0) tokens cause
+event_by-fault n words.Read tokens cause = faulty (client n ∷ client n ∷ []) (λ given. event.Read given.0 given.1.0) tokens cause
+event_by-fault n words.Arrive tokens cause = faulty (client n ∷ []) (λ given. event.Arrive given.0) tokens cause
+event_by-fault n words.Reply tokens cause = faulty (client n ∷ []) (λ given. event.Reply given.0) tokens cause
+event_by-fault n words.Tick tokens cause = faulty (client n ∷ moment ∷ []) (λ given. event.Tick given.0 given.1.0) tokens cause
+event_by-fault n words.Peer tokens cause = faulty (client n ∷ client n ∷ place ∷ []) (λ given. event.Peer given.0 given.1.0 given.1.1.0) tokens cause
+event_by-fault n words.Post tokens cause = faulty (client n ∷ bytes ∷ []) (λ given. event.Post given.0 given.1.0) tokens cause
+event_by-fault n words.Branch tokens cause = faulty (branch ∷ branch ∷ []) (λ given. event.Branch given.0 given.1.0) tokens cause
+event_by-fault n words.Route tokens cause = faulty (client n ∷ branch ∷ []) (λ given. event.Route given.0 given.1.0) tokens cause
+event_by-fault n words.Echo tokens cause = faulty (client n ∷ place ∷ branch ∷ []) (λ given. event.Echo given.0 given.1.0 given.1.1.0) tokens cause
+event_by-fault n words.Again tokens cause = faulty (client n ∷ place ∷ []) (λ given. event.Again given.0 given.1.0) tokens cause
+event_by-fault n words.Edit tokens cause =
+    let there = made_err (client_and_edit_at n tokens) (λ given. event.Edited given.0 given.1) cause in
+    let law = editing-fault n tokens cause in
+    (λ found. law.0 (there.0 found), λ is. there.1 (law.1 is))
+event_by-fault n words.Forge tokens cause =
+    let there = made_err (client_and_edit_at n tokens) (λ given. event.Forged given.0 given.1) cause in
+    let law = editing-fault n tokens cause in
+    (λ found. law.0 (there.0 found), λ is. there.1 (law.1 is))
+event_by-fault n words.Raw tokens cause = faulty (client n ∷ bytes ∷ []) (λ given. event.Raw given.0 given.1.0) tokens cause
+
+event_named-fault : (n : ℕ) (o : Option EventWord) (tokens : List (List ℕ)) (cause : Cause) → (event_named n o tokens ≡ Err cause) ↔ IsEventFaultOf n o tokens cause
+event_named-fault n None tokens cause = (λ found. cc, λ is. ap Err (sym is))
+event_named-fault n (Some word) tokens cause = event_by-fault n word tokens cause
+
+event_at-fault : (n : ℕ) (tokens : List (List ℕ)) (cause : Cause) → (event_at n tokens ≡ Err cause) ↔ IsEventFault n tokens cause
+unfolding event_at
+event_at-fault n [] cause = (λ found. cc, λ is. ap Err (sym is))
+event_at-fault n (token ∷ tokens) cause = event_named-fault n (event_word token) tokens cause
+
+-- The text of a line.
+chosen : {A : Type 0} (b : Bool) (x y z : A) → cond b x y ≡ z → ((b ≡ true) × (x ≡ z)) ⊎ ((b ≡ false) × (y ≡ z))
+chosen true x y z found = inl (refl, found)
+chosen false x y z found = inr (refl, found)
+
+abbrev grown : Script → Event → Result Stage Cause
+grown s e = Ok (stages.Events (with_event s e))
+
+events-fault : (s : Script) (text : List ℕ) (cause : Cause) → (text_at (stages.Events s) text ≡ Err cause) ↔ IsTextFault (stages.Events s) text cause
+unfolding text_at
+events-fault s text cause =
+    let law = event_at-fault s.config.clients (tokens_of text) cause in
+    let there = made_err (event_at s.config.clients (tokens_of text)) (λ e. stages.Events (with_event s e)) cause in (
+      λ found. elim (chosen (bytes_eq text (codes "end")) (Ok (stages.Ended s)) (cond (leb 20000 (length s.events)) (Err causes.Events) (event_at s.config.clients (tokens_of text) >>= grown s)) (Err cause) found) [
+          inl end ↦ absurd (let e = end.1 in cc)
+        | inr other ↦
+            (λ same. both_ways _ other.0 ((bytes_eq-Decides text (codes "end")).1 same),
+            elim (chosen (leb 20000 (length s.events)) (Err causes.Events) (event_at s.config.clients (tokens_of text) >>= grown s) (Err cause) other.1) [
+              inl full ↦ inl (let e = full.1 in cc, leb-true _ _ full.0)
+            | inr room ↦ inr (leb-false _ _ room.0, law.0 (there.0 room.1))
+            ])
+        ],
+      λ is.
+        let behind : cond (leb 20000 (length s.events)) (Err causes.Events) (event_at s.config.clients (tokens_of text) >>= grown s) ≡ Err cause = elim is.1 [
+            inl full ↦ cond-true (leb 20000 (length s.events)) (Err causes.Events) (event_at s.config.clients (tokens_of text) >>= grown s) (le-leb _ _ full.1) ∙ ap Err (sym full.0)
+          | inr room ↦ cond-false (leb 20000 (length s.events)) (Err causes.Events) (event_at s.config.clients (tokens_of text) >>= grown s) (lt-leb _ _ room.0) ∙ there.1 (law.1 room.1)
+          ] in
+        cond-false (bytes_eq text (codes "end")) (Ok (stages.Ended s)) (cond (leb 20000 (length s.events)) (Err causes.Events) (event_at s.config.clients (tokens_of text) >>= grown s)) (false_from_ne_true (bytes_eq text (codes "end")) (λ same. is.0 ((bytes_eq-Decides text (codes "end")).0 same))) ∙ behind,
+    )
+
+head-fault : (fields : List Field) (make : AllGiven fields → HeadStep) (text : List ℕ) (cause : Cause) → (let f : AllGiven fields → Result HeadStep Cause = λ given. Ok (make given) in let g : HeadStep → Result Stage Cause = λ step. Ok (after_head step) in ((fields_at fields (tokens_of text) >>= f) >>= g) ≡ Err cause) ↔ IsFirstFault fields (tokens_of text) cause
+head-fault fields make text cause =
+    let law = faulty fields make (tokens_of text) cause in
+    let there = made_err (fields_at fields (tokens_of text) >>= (λ given. Ok (make given))) after_head cause in
+    (λ found. law.0 (there.0 found), λ is. there.1 (law.1 is))
+
+text-fault : (stage : Stage) (text : List ℕ) (cause : Cause) → (text_at stage text ≡ Err cause) ↔ IsTextFault stage text cause
+unfolding text_at head_at
+text-fault stages.Title text cause = faulty title_form (λ given. stages.Head heads.Clients) (tokens_of text) cause
+text-fault (stages.Head heads.Clients) text cause = head-fault clients_form (λ given. steps.Next (heads.Key given.1.0)) text cause
+text-fault (stages.Head (heads.Key n)) text cause = head-fault key_form (λ given. steps.Next (heads.Delta n given.1.0)) text cause
+text-fault (stages.Head (heads.Delta n key)) text cause = head-fault delta_form (λ given. steps.Next (heads.Dummy n key given.1.0)) text cause
+text-fault (stages.Head (heads.Dummy n key delta)) text cause = head-fault dummy_form (λ given. steps.Whole (record { clients = n; key = key; delta = delta; dummy = given.1.0 })) text cause
+text-fault (stages.Events s) text cause = events-fault s text cause
+text-fault (stages.Ended s) text cause = (λ found. cc, λ is. ap Err (sym is))
+
+-- A line.
+line-fault : (stage : Stage) (line : TextLine) (cause : Cause) → (stage_at stage line ≡ Err cause) ↔ IsLineFault stage line cause
+unfolding stage_at
+line-fault stage line cause =
+    let law = text-fault stage line.bytes cause in (
+      λ found. elim (cases_Bool (ltb 40000 (length line.bytes))) [
+          inl long ↦ inl (let e = sym (ap (λ t. cond t (Err causes.TooLong) (cond line.ended (Ok line.bytes) (Err causes.CutOff)) >>= text_at stage) long) ∙ found in cc, ltb-true _ _ long)
+        | inr fits ↦
+            let behind = sym (ap (λ t. cond t (Err causes.TooLong) (cond line.ended (Ok line.bytes) (Err causes.CutOff)) >>= text_at stage) fits) ∙ found in
+            inr (ltb-false _ _ fits, elim (cases_Bool line.ended) [
+              inl ended ↦ inr (ended, law.0 (sym (ap (λ t. cond t (Ok line.bytes) (Err causes.CutOff) >>= text_at stage) ended) ∙ behind))
+            | inr open_end ↦ inl (let e = sym (ap (λ t. cond t (Ok line.bytes) (Err causes.CutOff) >>= text_at stage) open_end) ∙ behind in cc, open_end)
+            ])
+        ],
+      λ is. elim is [
+          inl long ↦ ap (λ t. cond t (Err causes.TooLong) (cond line.ended (Ok line.bytes) (Err causes.CutOff)) >>= text_at stage) (lt-ltb 40000 (length line.bytes) long.1) ∙ ap Err (sym long.0)
+        | inr fits ↦
+            let behind : (cond line.ended (Ok line.bytes) (Err causes.CutOff) >>= text_at stage) ≡ Err cause = elim fits.1 [
+                inl open_end ↦ ap (λ t. cond t (Ok line.bytes) (Err causes.CutOff) >>= text_at stage) open_end.1 ∙ ap Err (sym open_end.0)
+              | inr ended ↦ ap (λ t. cond t (Ok line.bytes) (Err causes.CutOff) >>= text_at stage) ended.0 ∙ law.1 ended.1
+              ] in
+            ap (λ t. cond t (Err causes.TooLong) (cond line.ended (Ok line.bytes) (Err causes.CutOff)) >>= text_at stage) (le-ltb 40000 (length line.bytes) fits.0) ∙ behind
+        ],
+    )
+
+-- Lines that are read, and what comes behind them.
+pub lines_from-behind : (front more : List TextLine) (stage last : Stage) (number : ℕ) → reached stage front ≡ Ok last → lines_from stage number (front ++ more) ≡ lines_from last (number + length front) more
+unfolding lines_from reached
+lines_from-behind [] more stage last number found = ap (λ st. lines_from st number more) (ok_same stage last found) ∙ ap (λ q. lines_from last q more) (omega arith)
+lines_from-behind (line ∷ front) more stage last number found =
+    let next = bind_ok (stage_at stage line) (λ st. reached st front) last found in
+    ap (and_then_lines number (λ st. lines_from st (number + 1) (front ++ more))) next.1
+    ∙ (lines_from-behind front more next.0 last (number + 1) next.2 ∙ ap (λ q. lines_from last q more) (omega arith))
+
+-- A refusal of lines, taken apart: how many are read, and why the next isn't.
+record Found (stage : Stage) (number : ℕ) (lines : List TextLine) (refusal : Refusal) : Type 0 where
+  before : ℕ
+  line_is : refusal.line ≡ number + before
+  within : before ≤ length lines
+  last : Stage
+  read_before : reached stage (take before lines) ≡ Ok last
+  why : IsRefusedThere last (drop before lines) refusal.cause
+
+abbrev refusal_of : Refusal → Result Script Refusal → Refusal
+refusal_of x (Ok script) = x
+refusal_of x (Err refusal) = refusal
+
+refusal_same : (x y : Refusal) → (let left : Result Script Refusal = Err x in left ≡ Err y) → x ≡ y
+refusal_same x y same = ap (λ (r : Result Script Refusal). refusal_of x r) same
+
+ended-fault : (stage : Stage) (number : ℕ) (refusal : Refusal) → finished stage number ≡ Err refusal → (refusal.line ≡ number) × (refusal.cause ≡ causes.CutOff) × IsNotEnded stage
+ended-fault stages.Title number refusal found = let same = refusal_same (record { line = number; cause = causes.CutOff }) refusal found in (sym (ap (λ r. r.line) same), sym (ap (λ r. r.cause) same), tt)
+ended-fault (stages.Head head) number refusal found = let same = refusal_same (record { line = number; cause = causes.CutOff }) refusal found in (sym (ap (λ r. r.line) same), sym (ap (λ r. r.cause) same), tt)
+ended-fault (stages.Events s) number refusal found = let same = refusal_same (record { line = number; cause = causes.CutOff }) refusal found in (sym (ap (λ r. r.line) same), sym (ap (λ r. r.cause) same), tt)
+ended-fault (stages.Ended s) number refusal found = absurd (cc)
+
+not_ended : (stage : Stage) (number : ℕ) → IsNotEnded stage → finished stage number ≡ Err (record { line = number; cause = causes.CutOff })
+not_ended stages.Title number is = refl
+not_ended (stages.Head head) number is = refl
+not_ended (stages.Events s) number is = refl
+not_ended (stages.Ended s) number is = absurd is
+
+refused_after : (number : ℕ) (lines : List TextLine) (r : Result Stage Cause) (refusal : Refusal) → and_then_lines number (λ next. lines_from next (number + 1) lines) r ≡ Err refusal → ((next : Stage) × (r ≡ Ok next) × (lines_from next (number + 1) lines ≡ Err refusal)) ⊎ ((refusal.line ≡ number) × (r ≡ Err refusal.cause))
+refused_after number lines (Ok next) refusal found = inl (next, refl, found)
+refused_after number lines (Err cause) refusal found = let same = refusal_same (record { line = number; cause = cause }) refusal found in inr (sym (ap (λ r. r.line) same), ap (λ r. Err r.cause) same)
+
+refused_lines : (lines : List TextLine) (stage : Stage) (number : ℕ) (refusal : Refusal) → lines_from stage number lines ≡ Err refusal → Found stage number lines refusal
+unfolding lines_from reached
+refused_lines [] stage number refusal found =
+    let ended = ended-fault stage number refusal found in
+    record { before = 0; line_is = omega (arith, ended.0); within = omega arith; last = stage; read_before = refl; why = (ended.1, ended.2) }
+refused_lines (line ∷ lines) stage number refusal found =
+    elim (refused_after number lines (stage_at stage line) refusal found) [
+      inl next ↦
+        let more = refused_lines lines next.0 (number + 1) refusal next.2 in
+        record {
+          before = suc more.before;
+          line_is = omega (arith, more.line_is);
+          within = omega (arith, more.within);
+          last = more.last;
+          read_before = ap (λ r. r >>= (λ st. reached st (take more.before lines))) next.1 ∙ more.read_before;
+          why = more.why
+        }
+    | inr here ↦ record { before = 0; line_is = omega (arith, here.0); within = omega arith; last = stage; read_before = refl; why = (line-fault stage line refusal.cause).0 here.1 }
+    ]
+
+pub refused_there : (lines : List TextLine) (stage : Stage) (number : ℕ) (cause : Cause) → IsRefusedThere stage lines cause → lines_from stage number lines ≡ Err (record { line = number; cause = cause })
+unfolding lines_from
+refused_there [] stage number cause why = not_ended stage number why.1 ∙ ap (λ c. Err (record { line = number; cause = c })) (sym why.0)
+refused_there (line ∷ lines) stage number cause why = ap (and_then_lines number (λ st. lines_from st (number + 1) lines)) ((line-fault stage line cause).1 why)
+
+-- The refused line of an input, and no other.
+pub refusals_are : (input : List ℕ) (refusal : Refusal) → (parsed input ≡ Err refusal) ↔ IsRefused input refusal
+unfolding parsed
+refusals_are input refusal = (
+  λ found.
+    let is = refused_lines (lines_of input) stages.Title 1 refusal found in
+    record { before = is.before; line_is = omega (arith, is.line_is); within = is.within; stage = is.last; read_before = is.read_before; why = is.why },
+  λ is.
+    let lines = lines_of input in
+    let front = take is.before lines in
+    let behind = drop is.before lines in
+    let count : length front ≡ is.before = length-take-le is.before lines is.within in
+    let line : 1 + length front ≡ refusal.line = omega (arith, count, is.line_is) in
+    ap (lines_from stages.Title 1) (sym (take-append-drop is.before lines))
+    ∙ (lines_from-behind front behind stages.Title is.stage 1 is.read_before
+    ∙ (refused_there behind is.stage (1 + length front) refusal.cause is.why ∙ ap (λ q. Err (record { line = q; cause = refusal.cause })) line)),
+)

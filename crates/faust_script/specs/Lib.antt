@@ -1,0 +1,5 @@
+pub mod Words
+pub mod Forms
+pub mod Parsing
+pub mod Scripts
+pub mod Refusals

@@ -1,0 +1,30 @@
+// Scripts as text: `parse` answers exactly the script that the bytes are, or the first line that breaks the grammar,
+// with its cause.
+//
+// `specs/Forms.antt` comes first: each event and each edit is a word and its fields. `specs/Parsing.antt` has the
+// machine over lines, whose fold is `parsed`. `specs/Scripts.antt` says in other words which bytes are a script's text,
+// and `specs/Refusals.antt` which line is refused and why. `specs/Words.antt` has the words.
+//
+// What an event does when it is played is not said here.
+#![tactic(auto)]
+
+mod edit;
+mod error;
+mod event;
+mod laws;
+mod line;
+mod parser;
+mod script;
+mod stage;
+mod word;
+
+pub use edit::Edit;
+pub use error::ScriptError;
+pub use event::Event;
+pub use laws::{first_refused_lines, scripts_are_their_texts};
+pub use parser::parse;
+pub use script::{Events, MAX_EVENTS, Script};
+pub use stage::Stage;
+
+#[cfg(test)]
+mod tests;

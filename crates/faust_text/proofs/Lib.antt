@@ -1,0 +1,5 @@
+pub mod LineLaws
+pub mod TokenLaws
+pub mod NumberLaws
+pub mod ValueLaws
+pub mod FieldLaws

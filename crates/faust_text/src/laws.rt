@@ -1,0 +1,47 @@
+// Laws of lines, tokens, numbers and values, each on a function with an empty body.
+ghost use Rattle.std.specs.Prelude.{◌≡◌, ◌↔◌, ◌<◌, ◌≤◌, ◌^◌, ℕ, List, length, Some};
+ghost use Rattle.std.specs.Fmt.{decimal};
+ghost use Rattle.std.specs.List.{AllByRecursion};
+ghost use Rattle.faust_types.specs.Ranges.{AreBytes};
+ghost use Rattle.faust_text.specs.declared.cause.Cause.{Cause};
+ghost use Rattle.faust_text.specs.Fields.{AllGiven, Field, fields_at};
+ghost use Rattle.faust_text.specs.Spelled.{IsFirstFault, SpellsFields};
+ghost use Rattle.faust_text.specs.Lines.{AreLines, IsWithout, TextLine, ended_lines, ended_text, lines_of};
+ghost use Rattle.faust_text.specs.Tokens.{CanBeJoined, joined, tokens_of};
+ghost use Rattle.faust_text.specs.Numbers.{number_of};
+ghost use Rattle.faust_text.specs.Values.{SpellsValue, bytes_of, bytes_text, value_of, value_text};
+
+/// Every input has its lines and no others; a text of whole lines has these.
+#[tactic(auto, using(crate::proofs::LineLaws::lines_of_ended_text))]
+pub fn lines_are_the_input()
+    ensures exactly { (bytes : List ℕ) (lines : List TextLine) → AreLines bytes lines ↔ (lines ≡ lines_of bytes) }
+    ensures whole { (texts : List (List ℕ)) → AllByRecursion (IsWithout 10) texts → lines_of (ended_text texts) ≡ ended_lines texts }
+{}
+
+/// Tokens that are joined by one blank each are read as these.
+#[tactic(auto, using(crate::proofs::TokenLaws::joined_are_read))]
+pub fn joined_tokens_are_read()
+    ensures { (tokens : List (List ℕ)) → CanBeJoined tokens → tokens_of (joined tokens) ≡ tokens }
+{}
+
+/// A number is its decimal digits, and no other token is it.
+#[tactic(auto, using(crate::proofs::NumberLaws::numbers_are))]
+pub fn numbers_are_their_digits()
+    ensures { (token : List ℕ) (x : ℕ) → (number_of token ≡ Some x) ↔ ((x < 2 ^ 64) × (token ≡ decimal x)) }
+{}
+
+/// A token is read as the value or the bytes that it spells, and no other token is; a printed value is read again.
+#[tactic(auto, using(crate::proofs::ValueLaws::printed_again))]
+pub fn values_are_their_spellings()
+    ensures values { (limit : ℕ) (token value : List ℕ) → (value_of limit token ≡ Some value) ↔ (SpellsValue token value × (length value ≤ limit) × AreBytes value) }
+    ensures bytes { (limit : ℕ) (token bytes : List ℕ) → (bytes_of limit token ≡ Some bytes) ↔ ((token ≡ bytes_text bytes) × (length bytes ≤ limit) × AreBytes bytes) }
+    ensures printed { (limit : ℕ) (value : List ℕ) → AreBytes value → length value ≤ limit → value_of limit (value_text (Some value)) ≡ Some value }
+{}
+
+/// A line's fields give what its tokens spell; tokens are refused there for the cause of the first of them, from the
+/// left, that may not stand in its field.
+pub fn fields_are_their_spellings()
+    ensures spelled { (fields : List Field) (tokens : List (List ℕ)) (given : AllGiven fields) → (fields_at fields tokens ≡ Ok given) ↔ SpellsFields fields given tokens }
+    ensures refused { (fields : List Field) (tokens : List (List ℕ)) (cause : Cause) → (fields_at fields tokens ≡ Err cause) ↔ IsFirstFault fields tokens cause }
+{
+}

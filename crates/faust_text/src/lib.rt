@@ -1,0 +1,39 @@
+// Texts as bytes: lines and tokens with their places, numbers, values and hexadecimal bytes as tokens, the causes
+// why a line is refused, and the printed forms. What is read is exactly what the grammar says, and what is printed
+// is read again.
+//
+// `specs/Lines.antt` comes first: what the lines of an input are. `specs/Tokens.antt` says what the tokens of a line
+// are, `specs/Numbers.antt` and `specs/Values.antt` which tokens are numbers, values and bytes, and
+// `specs/Causes.antt` has the words of the causes.
+//
+// Which tokens a line may have is not said here: that is a matter of each text's own crate.
+#![tactic(auto)]
+
+mod cause;
+mod cursor;
+mod error;
+mod field;
+mod head;
+mod laws;
+mod line;
+mod numeral;
+mod print;
+mod spelling;
+mod token;
+
+pub use cause::Cause;
+pub use cursor::Cursor;
+pub use error::{LineError, ValueError};
+pub use head::{Head, HeadStep};
+pub use laws::{
+    fields_are_their_spellings, joined_tokens_are_read, lines_are_the_input, numbers_are_their_digits,
+    values_are_their_spellings,
+};
+pub use line::{Line, Lines, MAX_LINE_LEN, Span, line_at, lines, whole_line};
+pub use numeral::{is_number, number};
+pub use print::{put_hex, put_number, put_value};
+pub use spelling::{bytes, hex_bytes, value};
+pub use token::{Tokens, split_token, tokens};
+
+#[cfg(test)]
+mod tests;

@@ -1,0 +1,184 @@
+use crate::{
+    Cause, Line, Span, ValueError, bytes, hex_bytes, line_at, lines, number, put_hex, put_number,
+    put_value, split_token, tokens, value,
+};
+use faust_types::{OutOfMemory, Sequence};
+use std::test::Fail;
+
+fn span(start: usize, end: usize) -> Span {
+    Span { start, end }
+}
+
+#[test]
+fn lines_have_their_places(rt: HostRuntime) -> Result<(), Fail> {
+    let none: [Line; 0] = [];
+    assert_eq!(rt; lines(rt.alloc(), b"")?.as_slice(), none.as_slice());
+    let ended = |start: usize, end: usize| Line {
+        span: Span { start, end },
+        ended: true,
+    };
+    let found = lines(rt.alloc(), b"ab\n\nc\n")?;
+    assert_eq!(rt;
+        found.as_slice(),
+        [ended(0, 2), ended(3, 3), ended(4, 5)].as_slice()
+    );
+    let found = lines(rt.alloc(), b"\nab")?;
+    let last = Line {
+        span: span(1, 3),
+        ended: false,
+    };
+    assert_eq!(rt; found.as_slice(), [ended(0, 0), last].as_slice());
+    assert_eq!(rt; line_at(b"\nab", 1), Some(last));
+    assert_eq!(rt; line_at(b"\nab", 3), None);
+    assert_eq!(rt; line_at(b"\nab", 9), None);
+    Ok(())
+}
+
+#[test]
+fn tokens_have_their_places(rt: HostRuntime) -> Result<(), Fail> {
+    let cases: [(&[u8], &[Span]); 8] = [
+        (b"", &[span(0, 0)]),
+        (b" ", &[span(0, 0), span(1, 1)]),
+        (b"ab  c", &[span(0, 2), span(3, 3), span(4, 5)]),
+        (b"w 1 \"a b\"", &[span(0, 1), span(2, 3), span(4, 9)]),
+        (b"\"a\"b", &[span(0, 3), span(3, 4)]),
+        (b"\"a\" ", &[span(0, 3), span(4, 4)]),
+        (b"\"a b", &[span(0, 4)]),
+        (b"a\"b\" c", &[span(0, 4), span(5, 6)]),
+    ];
+    for (line, places) in cases.iter() {
+        assert_eq!(rt; tokens(rt.alloc(), line)?.as_slice(), *places, "{line:?}");
+    }
+    let (token, left) = split_token(b"\"a b\" c");
+    assert_eq!(rt; token, b"\"a b\"".as_slice());
+    assert_eq!(rt; left.ok_or("nothing is left")?, b"c".as_slice());
+    assert!(rt; split_token(b"ab").1.is_none());
+    Ok(())
+}
+
+#[test]
+fn numbers_are_read_and_printed(rt: HostRuntime) -> Result<(), Fail> {
+    let cases: [(&[u8], Option<u64>); 12] = [
+        (b"", None),
+        (b"0", Some(0)),
+        (b"00", None),
+        (b"07", None),
+        (b"7", Some(7)),
+        (b"+7", None),
+        (b"-7", None),
+        (b"7 ", None),
+        (b"1a", None),
+        (b"18446744073709551615", Some(18_446_744_073_709_551_615)),
+        (b"18446744073709551616", None),
+        (b"123456789012345678901234567890", None),
+    ];
+    for (token, expected) in cases.iter() {
+        assert_eq!(rt; number(token), *expected, "{token:?}");
+    }
+    let printed: [(u64, &[u8]); 5] = [
+        (0, b"=0"),
+        (9, b"=9"),
+        (10, b"=10"),
+        (1_000_000, b"=1000000"),
+        (18_446_744_073_709_551_615, b"=18446744073709551615"),
+    ];
+    for (x, text) in printed.iter() {
+        let mut out = Sequence::from_slice(rt.alloc(), b"=")?;
+        put_number(&mut out, *x)?;
+        assert_eq!(rt; out.as_slice(), *text);
+    }
+    Ok(())
+}
+
+#[test]
+fn values_are_read(rt: HostRuntime) -> Result<(), Fail> {
+    let taken: [(&[u8], &[u8]); 6] = [
+        (b"\"\"", b""),
+        (b"\"a ~\"", b"a ~"),
+        (b"0x", b""),
+        (b"0x00ff", b"\x00\xff"),
+        (b"\"abcd\"", b"abcd"),
+        (b"0x61626364", b"abcd"),
+    ];
+    for (token, expected) in taken.iter() {
+        assert_eq!(rt;
+            value(rt.alloc(), token, 4)?.as_slice(),
+            *expected,
+            "{token:?}"
+        );
+    }
+    let refused: [&[u8]; 13] = [
+        b"",
+        b"a",
+        b"\"",
+        b"\"a",
+        b"\"a\"b",
+        b"\"a\\\"",
+        b"\"\n\"",
+        b"\"\x7f\"",
+        b"\"abcde\"",
+        b"0x0",
+        b"0x0G",
+        b"0xAB",
+        b"0x6162636465",
+    ];
+    for token in refused.iter() {
+        assert_eq!(rt;
+            value(rt.alloc(), token, 4).err(),
+            Some(ValueError::Bad),
+            "{token:?}"
+        );
+    }
+    Ok(())
+}
+
+#[test]
+fn bytes_are_read(rt: HostRuntime) -> Result<(), Fail> {
+    assert_eq!(rt;
+        bytes(rt.alloc(), b"0x0f10", 2)?.as_slice(),
+        b"\x0f\x10".as_slice()
+    );
+    assert_eq!(rt; hex_bytes(rt.alloc(), b"", 0)?.len(), 0);
+    assert_eq!(rt;
+        hex_bytes(rt.alloc(), b"0f10", 2)?.as_slice(),
+        b"\x0f\x10".as_slice()
+    );
+    let refused: [&[u8]; 7] = [b"", b"0", b"0f10", b"\"a\"", b"0X00", b"0x0F", b"0x000000"];
+    for token in refused.iter() {
+        assert_eq!(rt;
+            bytes(rt.alloc(), token, 2).err(),
+            Some(ValueError::Bad),
+            "{token:?}"
+        );
+    }
+    let refused: [&[u8]; 4] = [b"0", b"0x00", b"0F", b"000000"];
+    for token in refused.iter() {
+        assert_eq!(rt;
+            hex_bytes(rt.alloc(), token, 2).err(),
+            Some(ValueError::Bad),
+            "{token:?}"
+        );
+    }
+    Ok(())
+}
+
+#[test]
+fn values_are_printed(rt: HostRuntime) -> Result<(), OutOfMemory> {
+    let cases: [(Option<&[u8]>, &[u8]); 5] = [
+        (None, b"=none"),
+        (Some(b""), b"=\"\""),
+        (Some(b"a b"), b"=\"a b\""),
+        (Some(b"a\"b"), b"=0x612262"),
+        (Some(b"\x00\xff"), b"=0x00ff"),
+    ];
+    for (shown, text) in cases.iter() {
+        let mut out = Sequence::from_slice(rt.alloc(), b"=")?;
+        put_value(&mut out, *shown)?;
+        assert_eq!(rt; out.as_slice(), *text);
+    }
+    let mut out = Sequence::from_slice(rt.alloc(), b"=")?;
+    put_hex(&mut out, b"\x01\xab")?;
+    assert_eq!(rt; out.as_slice(), b"=01ab".as_slice());
+    assert_eq!(rt; Cause::AfterEnd.text(), "after end");
+    Ok(())
+}
