@@ -1,11 +1,10 @@
 -- Events and edits, and the tokens that spell them.
-use Rattle.std.proofs.Common.{◌≡◌, ℕ, Bool, true, false, cond, List, [], ◌∷◌, Option, Some, None, Result, Ok, Err, refl, sym, ap, ◌∙◌, subst, ◌⊎◌, ◌↔◌, inl, inr}
+use Rattle.std.proofs.Common.{◌≡◌, ℕ, List, [], ◌∷◌, Option, Some, None, Result, Ok, refl, sym, ap, ◌∙◌, subst, ◌↔◌, inl, inr}
 use Rattle.std.specs.List.{find}
 use Rattle.std.specs.Str.{bytes_eq}
 use Rattle.std.proofs.lemmas.Bool.{cases_Bool, cond-true, cond-false}
 use Rattle.std.proofs.lemmas.Slice.Eq.{bytes_eq-Decides}
 use Rattle.faust_text.specs.declared.cause.Cause.{Cause}
-use Rattle.faust_text.specs.declared.cause.Cause.TheVariants as causes
 use Rattle.faust_text.specs.Fields.{Field, AllGiven, kind, value, bytes, field_at, fields_at, next_field, ◌>>=◌}
 use Rattle.faust_text.specs.Spelled.{SpellsField, SpellsFields}
 use Rattle.faust_text.proofs.FieldLaws.{bind_ok, field_spells, fields_spell, ok_same}
@@ -18,7 +17,7 @@ use Rattle.faust_script.specs.declared.word.EventWord.TheVariants as words
 use Rattle.faust_script.specs.declared.word.EditWord.{EditWord}
 use Rattle.faust_script.specs.declared.word.EditWord.TheVariants as edit_words_
 use Rattle.faust_script.specs.Forms.{client, place, branch, moment, timestamp, edit_by, edit_named, edit_at, client_and_edit_at, event_by, event_named, event_at}
-use Rattle.faust_script.specs.Scripts.{Spells, SpellsEdit, SpellsEditing, SpellsEvent}
+use Rattle.faust_script.specs.Scripts.{SpellsEdit, SpellsEditing, SpellsEvent}
 use Rattle.faust_script.specs.Words.{event_text, event_words, event_word, edit_text, edit_words, edit_word}
 
 -- The word that a token names is spelled so.
@@ -26,10 +25,10 @@ find_named : {W : Type 0} (text : W → List ℕ) (token : List ℕ) (words : Li
 find_named text token [] word found = absurd (cc)
 find_named text token (w ∷ ws) word found =
     elim (cases_Bool (bytes_eq (text w) token)) [
-      inl same ↦
-        let word_is : w ≡ word = let e = sym (cond-true (bytes_eq (text w) token) (Some w) (find (λ x. bytes_eq (text x) token) ws) same) ∙ found in cc in
-        sym ((bytes_eq-Decides (text w) token).0 same) ∙ ap text word_is
-    | inr other ↦ find_named text token ws word (sym (cond-false (bytes_eq (text w) token) (Some w) (find (λ x. bytes_eq (text x) token) ws) other) ∙ found)
+      | inl same ↦
+          let word_is : w ≡ word = let e = sym (cond-true (bytes_eq (text w) token) (Some w) (find (λ x. bytes_eq (text x) token) ws) same) ∙ found in cc in
+          sym ((bytes_eq-Decides (text w) token).0 same) ∙ ap text word_is
+      | inr other ↦ find_named text token ws word (sym (cond-false (bytes_eq (text w) token) (Some w) (find (λ x. bytes_eq (text x) token) ws) other) ∙ found)
     ]
 
 event_word-named : (token : List ℕ) (word : EventWord) → event_word token ≡ Some word → token ≡ event_text word

@@ -1,5 +1,5 @@
 -- Fronts of scripts: what was read can go on, and a refused line can't.
-use Rattle.std.proofs.Common.{◌≡◌, ℕ, ◌+◌, ◌-◌, ◌<◌, ◌≤◌, zero, suc, Bool, true, false, cond, eqb, List, [], ◌∷◌, ◌++◌, length, take, drop, Result, Ok, Err, refl, sym, ap, ◌∙◌, subst, inl, inr, arith, lit≤, append_assoc, length-drop, add-one}
+use Rattle.std.proofs.Common.{◌≡◌, ℕ, ◌+◌, ◌-◌, ◌≤◌, zero, suc, true, false, eqb, List, [], ◌∷◌, ◌++◌, length, take, drop, Result, Ok, Err, refl, sym, ap, ◌∙◌, subst, inl, inr, arith, lit≤, append_assoc, length-drop, add-one}
 use Rattle.std.specs.Prelude.{codes}
 use Rattle.std.specs.List.{AllByRecursion}
 use Rattle.std.proofs.lemmas.Bool.{cases_Bool, cond-true, cond-false, false≢true}
@@ -21,7 +21,8 @@ use Rattle.faust_script.specs.declared.stage.Stage.TheVariants as stages
 use Rattle.faust_script.specs.Parsing.{Parses, Refusal, lines_from, parsed, stage_at, text_at}
 use Rattle.faust_script.specs.Refusals.{CanGoOn, IsAnswer, IsLineFault, IsRefused, IsRefusedThere, reached}
 use Rattle.faust_script.proofs.RefusalLaws.{lines_from-behind, refused_there, refusals_are}
-use Rattle.faust_script.proofs.ScriptLaws.{empty_script, end_read, end_text, ended_found, ended_line, key_read, script_texts, step_found, whole_line-only}
+use Rattle.faust_script.proofs.LineSteps.{end_read, end_text, ended_found, ended_line, step_found, whole_line-only}
+use Rattle.faust_script.proofs.ScriptLaws.{empty_script, key_read, script_texts}
 
 -- The lines that end a script, from each stage on.
 abbrev from_dummy : List (List ℕ)
@@ -102,8 +103,8 @@ without-test : (xs : List ℕ) → has 10 xs ≡ false → IsWithout 10 xs
 without-test [] none = tt
 without-test (x ∷ xs) none =
     elim (cases_Bool (eqb x 10)) [
-      inl feed ↦ absurd (false≢true (sym none ∙ cond-true (eqb x 10) true (has 10 xs) feed))
-    | inr other ↦ (other, without-test xs (sym (cond-false (eqb x 10) true (has 10 xs) other) ∙ none))
+      | inl feed ↦ absurd (false≢true (sym none ∙ cond-true (eqb x 10) true (has 10 xs) feed))
+      | inr other ↦ (other, without-test xs (sym (cond-false (eqb x 10) true (has 10 xs) other) ∙ none))
     ]
 
 without_end : AllByRecursion (IsWithout 10) (end_text ∷ [])
@@ -160,7 +161,7 @@ texts_read (line ∷ lines) stage last none found =
     record {
       texts = text.0 ∷ more.texts;
       are = ap (λ l. l ∷ lines) whole.0 ∙ ap (λ ls. ended_line text.0 ∷ ls) more.are;
-      without = (subst HasNoFeed whole.0 none.0, more.without)
+      without = (subst HasNoFeed whole.0 none.0, more.without);
     }
 
 ended_lines-append : (xs ys : List (List ℕ)) → ended_lines (xs ++ ys) ≡ ended_lines xs ++ ended_lines ys
@@ -189,8 +190,8 @@ goes_on input count last found =
     let bytes = ended_text texts in
     let end = completes last (1 + length front) in
     let lines : lines_of bytes ≡ front ++ ended_lines (completion last) =
-      lines_of_ended_text texts (without-append fronts.texts (completion last) fronts.without (completion-without last))
-      ∙ (ended_lines-append fronts.texts (completion last) ∙ ap (λ ls. ls ++ ended_lines (completion last)) (sym fronts.are)) in
+    lines_of_ended_text texts (without-append fronts.texts (completion last) fronts.without (completion-without last))
+    ∙ (ended_lines-append fronts.texts (completion last) ∙ ap (λ ls. ls ++ ended_lines (completion last)) (sym fronts.are)) in
     let read : parsed bytes ≡ Ok end.script = parsed_by bytes front (ended_lines (completion last)) last end.script lines found end.read in
     record { script = end.script; input = bytes; more = ended_lines (completion last); is_text = (script_texts bytes end.script).0 read; lines_are = lines }
 

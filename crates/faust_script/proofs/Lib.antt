@@ -1,5 +1,6 @@
 pub mod ParseLaws
 pub mod EventLaws
+pub mod LineSteps
 pub mod ScriptLaws
 pub mod RefusalLaws
 pub mod GoingOn

@@ -1,13 +1,12 @@
 -- Reading a script line by line.
-use Rattle.std.proofs.Common.{◌≡◌, ℕ, ◌+◌, List, [], ◌∷◌, length, drop, Result, Ok, Err, refl, sym, ap, ◌∙◌, subst, arith}
+use Rattle.std.proofs.Common.{◌≡◌, ℕ, ◌+◌, List, [], drop, Ok, Err, sym, ap, ◌∙◌}
 use Rattle.faust_text.specs.declared.error.LineError.{LineError}
 use Rattle.faust_text.specs.declared.error.LineError.TheVariants as line_errors
 use Rattle.faust_text.specs.declared.line.Line.{Line}
 use Rattle.faust_text.specs.Fields.{Fails}
-use Rattle.faust_text.specs.Lines.{BeginsAt, TextLine, line_in, lines_of}
-use Rattle.faust_script.specs.declared.script.Script.{Script}
+use Rattle.faust_text.specs.Lines.{BeginsAt, line_in, lines_of}
 use Rattle.faust_script.specs.declared.stage.Stage.{Stage}
-use Rattle.faust_script.specs.Parsing.{Parses, Refusal, and_then_lines, finished, lines_from, parsed, refused_at, stage_at}
+use Rattle.faust_script.specs.Parsing.{Parses, and_then_lines, finished, lines_from, parsed, refused_at, stage_at}
 
 -- One line on.
 line_read : (input : List ℕ) (from number : ℕ) (line : Line) (stage : Stage) → BeginsAt input from line → lines_from stage number (lines_of (drop from input)) ≡ and_then_lines number (λ next. lines_from next (number + 1) (lines_of (drop (line.span.end + 1) input))) (stage_at stage (line_in input line))

@@ -1,5 +1,5 @@
 -- Refused lines and their causes.
-use Rattle.std.proofs.Common.{◌≡◌, ℕ, ◌+◌, ◌-◌, ◌<◌, ◌≤◌, suc, Bool, true, false, cond, leb, ltb, List, [], ◌∷◌, ◌++◌, length, take, drop, Option, Some, None, Result, Ok, Err, refl, sym, ap, ◌∙◌, subst, ◌↔◌, ◌⊎◌, ◌≢◌, inl, inr, arith, append_assoc, length-append}
+use Rattle.std.proofs.Common.{◌≡◌, ℕ, ◌+◌, ◌≤◌, suc, Bool, true, false, cond, leb, ltb, List, [], ◌∷◌, ◌++◌, length, take, drop, Option, Some, None, Result, Ok, Err, refl, sym, ap, ◌∙◌, ◌↔◌, ◌⊎◌, inl, inr, arith}
 use Rattle.std.specs.Prelude.{codes}
 use Rattle.std.specs.Str.{bytes_eq}
 use Rattle.std.proofs.lemmas.Bool.{cases_Bool, cond-true, cond-false, le-ltb, lt-ltb, ltb-true, ltb-false, leb-true, leb-false, le-leb, lt-leb, both_ways, false_from_ne_true}
@@ -7,14 +7,13 @@ use Rattle.std.proofs.lemmas.List.{length-take-le, take-append-drop}
 use Rattle.std.proofs.lemmas.Slice.Eq.{bytes_eq-Decides}
 use Rattle.faust_text.specs.declared.cause.Cause.{Cause}
 use Rattle.faust_text.specs.declared.cause.Cause.TheVariants as causes
-use Rattle.faust_text.specs.declared.head.Head.{Head}
 use Rattle.faust_text.specs.declared.head.Head.TheVariants as heads
 use Rattle.faust_text.specs.declared.head.HeadStep.{HeadStep}
 use Rattle.faust_text.specs.declared.head.HeadStep.TheVariants as steps
-use Rattle.faust_text.specs.Fields.{Field, AllGiven, kind, value, bytes, field_at, fields_at, next_field, ◌>>=◌}
+use Rattle.faust_text.specs.Fields.{Field, AllGiven, kind, value, bytes, field_at, fields_at, ◌>>=◌}
 use Rattle.faust_text.specs.Heads.{clients_form, key_form, delta_form, dummy_form, head_at}
-use Rattle.faust_text.specs.Lines.{TextLine, lines_of, whole_line}
-use Rattle.faust_text.specs.Spelled.{IsFault, IsFirstFault, SpellsField}
+use Rattle.faust_text.specs.Lines.{TextLine, lines_of}
+use Rattle.faust_text.specs.Spelled.{IsFirstFault}
 use Rattle.faust_text.specs.Tokens.{tokens_of}
 use Rattle.faust_text.proofs.FieldLaws.{bind_ok, bind_err, field_faults, field_spells, fields_fault, ok_same}
 use Rattle.faust_script.specs.declared.event.Event.{Event}
@@ -30,7 +29,7 @@ use Rattle.faust_script.specs.declared.word.EditWord.{EditWord}
 use Rattle.faust_script.specs.declared.word.EditWord.TheVariants as edit_words
 use Rattle.faust_script.specs.Forms.{client, place, branch, moment, timestamp, edit_by, edit_named, edit_at, client_and_edit_at, event_by, event_named, event_at}
 use Rattle.faust_script.specs.Parsing.{Refusal, after_head, and_then_lines, finished, lines_from, parsed, stage_at, text_at, title_form, with_event}
-use Rattle.faust_script.specs.Refusals.{IsEditFault, IsEditFaultOf, IsEditingFault, IsEventFault, IsEventFaultOf, IsTextFault, IsLineFault, IsNotEnded, IsRefusedThere, IsRefused, CanGoOn, reached}
+use Rattle.faust_script.specs.Refusals.{IsEditFault, IsEditFaultOf, IsEditingFault, IsEventFault, IsEventFaultOf, IsTextFault, IsLineFault, IsNotEnded, IsRefusedThere, IsRefused, reached}
 use Rattle.faust_script.specs.Words.{event_word, edit_word}
 
 -- What is made of what a reading gives is refused as the reading is.
@@ -83,20 +82,20 @@ editing-fault : (n : ℕ) (tokens : List (List ℕ)) (cause : Cause) → (client
 editing-fault n [] cause = (λ found. cc, λ is. ap Err (sym is))
 editing-fault n (token ∷ tokens) cause = (
   λ found. elim (bind_err (field_at (client n) token >>= and_tokens tokens) (and_edit n) cause found) [
-      inl there ↦ inl ((field_faults (client n) token cause).0 ((made_err (field_at (client n) token) (λ i. (i, tokens)) cause).0 there))
+    | inl there ↦ inl ((field_faults (client n) token cause).0 ((made_err (field_at (client n) token) (λ i. (i, tokens)) cause).0 there))
     | inr behind ↦
         let field = bind_ok (field_at (client n) token) (and_tokens tokens) behind.0 behind.1 in
         let same : (field.0, tokens) ≡ behind.0 = ok_same (field.0, tokens) behind.0 field.2 in
         let edit_err = (made_err (edit_at n behind.0.1) (λ e. (behind.0.0, e)) cause).0 behind.2 in
         inr (field.0, (field_spells (client n) token field.0).0 field.1, (edit_at-fault n tokens cause).0 (ap (λ p. edit_at n p.1) same ∙ edit_err))
-    ],
+  ],
   λ is.
-    let out : ((field_at (client n) token >>= and_tokens tokens) >>= and_edit n) ≡ Err cause = elim is [
-      inl there ↦ ap (λ r. (r >>= and_tokens tokens) >>= and_edit n) ((field_faults (client n) token cause).1 there)
-    | inr behind ↦
-        ap (λ r. (r >>= and_tokens tokens) >>= and_edit n) ((field_spells (client n) token behind.0).1 behind.1)
-        ∙ (made_err (edit_at n tokens) (λ e. (behind.0, e)) cause).1 ((edit_at-fault n tokens cause).1 behind.2)
-    ] in out,
+      let out : ((field_at (client n) token >>= and_tokens tokens) >>= and_edit n) ≡ Err cause = elim is [
+        | inl there ↦ ap (λ r. (r >>= and_tokens tokens) >>= and_edit n) ((field_faults (client n) token cause).1 there)
+        | inr behind ↦
+            ap (λ r. (r >>= and_tokens tokens) >>= and_edit n) ((field_spells (client n) token behind.0).1 behind.1)
+            ∙ (made_err (edit_at n tokens) (λ e. (behind.0, e)) cause).1 ((edit_at-fault n tokens cause).1 behind.2)
+      ] in out,
 )
 
 -- Events.
@@ -146,20 +145,21 @@ events-fault s text cause =
     let law = event_at-fault s.config.clients (tokens_of text) cause in
     let there = made_err (event_at s.config.clients (tokens_of text)) (λ e. stages.Events (with_event s e)) cause in (
       λ found. elim (chosen (bytes_eq text (codes "end")) (Ok (stages.Ended s)) (cond (leb 20000 (length s.events)) (Err causes.Events) (event_at s.config.clients (tokens_of text) >>= grown s)) (Err cause) found) [
-          inl end ↦ absurd (let e = end.1 in cc)
-        | inr other ↦
-            (λ same. both_ways _ other.0 ((bytes_eq-Decides text (codes "end")).1 same),
-            elim (chosen (leb 20000 (length s.events)) (Err causes.Events) (event_at s.config.clients (tokens_of text) >>= grown s) (Err cause) other.1) [
-              inl full ↦ inl (let e = full.1 in cc, leb-true _ _ full.0)
+        | inl end ↦ absurd (let e = end.1 in cc)
+        | inr other ↦ (
+          λ same. both_ways _ other.0 ((bytes_eq-Decides text (codes "end")).1 same),
+          elim (chosen (leb 20000 (length s.events)) (Err causes.Events) (event_at s.config.clients (tokens_of text) >>= grown s) (Err cause) other.1) [
+            | inl full ↦ inl (let e = full.1 in cc, leb-true _ _ full.0)
             | inr room ↦ inr (leb-false _ _ room.0, law.0 (there.0 room.1))
-            ])
-        ],
+          ],
+        )
+      ],
       λ is.
-        let behind : cond (leb 20000 (length s.events)) (Err causes.Events) (event_at s.config.clients (tokens_of text) >>= grown s) ≡ Err cause = elim is.1 [
-            inl full ↦ cond-true (leb 20000 (length s.events)) (Err causes.Events) (event_at s.config.clients (tokens_of text) >>= grown s) (le-leb _ _ full.1) ∙ ap Err (sym full.0)
-          | inr room ↦ cond-false (leb 20000 (length s.events)) (Err causes.Events) (event_at s.config.clients (tokens_of text) >>= grown s) (lt-leb _ _ room.0) ∙ there.1 (law.1 room.1)
+          let behind : cond (leb 20000 (length s.events)) (Err causes.Events) (event_at s.config.clients (tokens_of text) >>= grown s) ≡ Err cause = elim is.1 [
+            | inl full ↦ cond-true (leb 20000 (length s.events)) (Err causes.Events) (event_at s.config.clients (tokens_of text) >>= grown s) (le-leb _ _ full.1) ∙ ap Err (sym full.0)
+            | inr room ↦ cond-false (leb 20000 (length s.events)) (Err causes.Events) (event_at s.config.clients (tokens_of text) >>= grown s) (lt-leb _ _ room.0) ∙ there.1 (law.1 room.1)
           ] in
-        cond-false (bytes_eq text (codes "end")) (Ok (stages.Ended s)) (cond (leb 20000 (length s.events)) (Err causes.Events) (event_at s.config.clients (tokens_of text) >>= grown s)) (false_from_ne_true (bytes_eq text (codes "end")) (λ same. is.0 ((bytes_eq-Decides text (codes "end")).0 same))) ∙ behind,
+          cond-false (bytes_eq text (codes "end")) (Ok (stages.Ended s)) (cond (leb 20000 (length s.events)) (Err causes.Events) (event_at s.config.clients (tokens_of text) >>= grown s)) (false_from_ne_true (bytes_eq text (codes "end")) (λ same. is.0 ((bytes_eq-Decides text (codes "end")).0 same))) ∙ behind,
     )
 
 head-fault : (fields : List Field) (make : AllGiven fields → HeadStep) (text : List ℕ) (cause : Cause) → (let f : AllGiven fields → Result HeadStep Cause = λ given. Ok (make given) in let g : HeadStep → Result Stage Cause = λ step. Ok (after_head step) in ((fields_at fields (tokens_of text) >>= f) >>= g) ≡ Err cause) ↔ IsFirstFault fields (tokens_of text) cause
@@ -184,23 +184,26 @@ unfolding stage_at
 line-fault stage line cause =
     let law = text-fault stage line.bytes cause in (
       λ found. elim (cases_Bool (ltb 40000 (length line.bytes))) [
-          inl long ↦ inl (let e = sym (ap (λ t. cond t (Err causes.TooLong) (cond line.ended (Ok line.bytes) (Err causes.CutOff)) >>= text_at stage) long) ∙ found in cc, ltb-true _ _ long)
+        | inl long ↦ inl (let e = sym (ap (λ t. cond t (Err causes.TooLong) (cond line.ended (Ok line.bytes) (Err causes.CutOff)) >>= text_at stage) long) ∙ found in cc, ltb-true _ _ long)
         | inr fits ↦
             let behind = sym (ap (λ t. cond t (Err causes.TooLong) (cond line.ended (Ok line.bytes) (Err causes.CutOff)) >>= text_at stage) fits) ∙ found in
-            inr (ltb-false _ _ fits, elim (cases_Bool line.ended) [
-              inl ended ↦ inr (ended, law.0 (sym (ap (λ t. cond t (Ok line.bytes) (Err causes.CutOff) >>= text_at stage) ended) ∙ behind))
-            | inr open_end ↦ inl (let e = sym (ap (λ t. cond t (Ok line.bytes) (Err causes.CutOff) >>= text_at stage) open_end) ∙ behind in cc, open_end)
-            ])
-        ],
+            inr (
+              ltb-false _ _ fits,
+              elim (cases_Bool line.ended) [
+                | inl ended ↦ inr (ended, law.0 (sym (ap (λ t. cond t (Ok line.bytes) (Err causes.CutOff) >>= text_at stage) ended) ∙ behind))
+                | inr open_end ↦ inl (let e = sym (ap (λ t. cond t (Ok line.bytes) (Err causes.CutOff) >>= text_at stage) open_end) ∙ behind in cc, open_end)
+              ],
+            )
+      ],
       λ is. elim is [
-          inl long ↦ ap (λ t. cond t (Err causes.TooLong) (cond line.ended (Ok line.bytes) (Err causes.CutOff)) >>= text_at stage) (lt-ltb 40000 (length line.bytes) long.1) ∙ ap Err (sym long.0)
+        | inl long ↦ ap (λ t. cond t (Err causes.TooLong) (cond line.ended (Ok line.bytes) (Err causes.CutOff)) >>= text_at stage) (lt-ltb 40000 (length line.bytes) long.1) ∙ ap Err (sym long.0)
         | inr fits ↦
             let behind : (cond line.ended (Ok line.bytes) (Err causes.CutOff) >>= text_at stage) ≡ Err cause = elim fits.1 [
-                inl open_end ↦ ap (λ t. cond t (Ok line.bytes) (Err causes.CutOff) >>= text_at stage) open_end.1 ∙ ap Err (sym open_end.0)
+              | inl open_end ↦ ap (λ t. cond t (Ok line.bytes) (Err causes.CutOff) >>= text_at stage) open_end.1 ∙ ap Err (sym open_end.0)
               | inr ended ↦ ap (λ t. cond t (Ok line.bytes) (Err causes.CutOff) >>= text_at stage) ended.0 ∙ law.1 ended.1
-              ] in
+            ] in
             ap (λ t. cond t (Err causes.TooLong) (cond line.ended (Ok line.bytes) (Err causes.CutOff)) >>= text_at stage) (le-ltb 40000 (length line.bytes) fits.0) ∙ behind
-        ],
+      ],
     )
 
 -- Lines that are read, and what comes behind them.
@@ -251,17 +254,17 @@ refused_lines [] stage number refusal found =
     record { before = 0; line_is = omega (arith, ended.0); within = omega arith; last = stage; read_before = refl; why = (ended.1, ended.2) }
 refused_lines (line ∷ lines) stage number refusal found =
     elim (refused_after number lines (stage_at stage line) refusal found) [
-      inl next ↦
-        let more = refused_lines lines next.0 (number + 1) refusal next.2 in
-        record {
-          before = suc more.before;
-          line_is = omega (arith, more.line_is);
-          within = omega (arith, more.within);
-          last = more.last;
-          read_before = ap (λ r. r >>= (λ st. reached st (take more.before lines))) next.1 ∙ more.read_before;
-          why = more.why
-        }
-    | inr here ↦ record { before = 0; line_is = omega (arith, here.0); within = omega arith; last = stage; read_before = refl; why = (line-fault stage line refusal.cause).0 here.1 }
+      | inl next ↦
+          let more = refused_lines lines next.0 (number + 1) refusal next.2 in
+          record {
+            before = suc more.before;
+            line_is = omega (arith, more.line_is);
+            within = omega (arith, more.within);
+            last = more.last;
+            read_before = ap (λ r. r >>= (λ st. reached st (take more.before lines))) next.1 ∙ more.read_before;
+            why = more.why;
+          }
+      | inr here ↦ record { before = 0; line_is = omega (arith, here.0); within = omega arith; last = stage; read_before = refl; why = (line-fault stage line refusal.cause).0 here.1 }
     ]
 
 pub refused_there : (lines : List TextLine) (stage : Stage) (number : ℕ) (cause : Cause) → IsRefusedThere stage lines cause → lines_from stage number lines ≡ Err (record { line = number; cause = cause })
@@ -274,15 +277,15 @@ pub refusals_are : (input : List ℕ) (refusal : Refusal) → (parsed input ≡ 
 unfolding parsed
 refusals_are input refusal = (
   λ found.
-    let is = refused_lines (lines_of input) stages.Title 1 refusal found in
-    record { before = is.before; line_is = omega (arith, is.line_is); within = is.within; stage = is.last; read_before = is.read_before; why = is.why },
+      let is = refused_lines (lines_of input) stages.Title 1 refusal found in
+      record { before = is.before; line_is = omega (arith, is.line_is); within = is.within; stage = is.last; read_before = is.read_before; why = is.why },
   λ is.
-    let lines = lines_of input in
-    let front = take is.before lines in
-    let behind = drop is.before lines in
-    let count : length front ≡ is.before = length-take-le is.before lines is.within in
-    let line : 1 + length front ≡ refusal.line = omega (arith, count, is.line_is) in
-    ap (lines_from stages.Title 1) (sym (take-append-drop is.before lines))
-    ∙ (lines_from-behind front behind stages.Title is.stage 1 is.read_before
-    ∙ (refused_there behind is.stage (1 + length front) refusal.cause is.why ∙ ap (λ q. Err (record { line = q; cause = refusal.cause })) line)),
+      let lines = lines_of input in
+      let front = take is.before lines in
+      let behind = drop is.before lines in
+      let count : length front ≡ is.before = length-take-le is.before lines is.within in
+      let line : 1 + length front ≡ refusal.line = omega (arith, count, is.line_is) in
+      ap (lines_from stages.Title 1) (sym (take-append-drop is.before lines))
+      ∙ (lines_from-behind front behind stages.Title is.stage 1 is.read_before
+      ∙ (refused_there behind is.stage (1 + length front) refusal.cause is.why ∙ ap (λ q. Err (record { line = q; cause = refusal.cause })) line)),
 )

@@ -1,211 +1,22 @@
 -- Scripts and the bytes that are their text.
-use Rattle.std.proofs.Common.{◌≡◌, ℕ, ◌+◌, ◌<◌, ◌≤◌, Bool, true, false, cond, leb, ltb, List, [], ◌∷◌, ◌++◌, length, Result, Ok, Err, refl, sym, ap, ◌∙◌, subst, ◌↔◌, ◌⊎◌, inl, inr, arith, lit≤, append_assoc, length-append}
-use Rattle.std.specs.Prelude.{codes}
+use Rattle.std.proofs.Common.{◌≡◌, ℕ, ◌+◌, ◌≤◌, List, [], ◌∷◌, ◌++◌, length, Ok, sym, ap, ◌∙◌, subst, ◌↔◌, lit≤}
 use Rattle.std.specs.List.{AllByRecursion}
-use Rattle.std.specs.Str.{bytes_eq}
-use Rattle.std.proofs.lemmas.List.{append-nil}
-use Rattle.std.proofs.lemmas.Bool.{cond-true, cond-false, le-ltb, ltb-false, leb-false, lt-leb, false_from_ne_true}
-use Rattle.std.proofs.lemmas.Slice.Eq.{bytes_eq-Decides}
-use Rattle.faust_types.specs.declared.config.Config.{Config}
-use Rattle.faust_text.specs.declared.cause.Cause.{Cause}
-use Rattle.faust_text.specs.declared.cause.Cause.TheVariants as causes
 use Rattle.faust_text.specs.declared.head.Head.{Head}
 use Rattle.faust_text.specs.declared.head.Head.TheVariants as heads
-use Rattle.faust_text.specs.declared.head.HeadStep.{HeadStep}
 use Rattle.faust_text.specs.declared.head.HeadStep.TheVariants as steps
-use Rattle.faust_text.specs.Fields.{AllGiven, fields_at, ◌>>=◌}
+use Rattle.faust_text.specs.Fields.{fields_at, ◌>>=◌}
 use Rattle.faust_text.specs.Heads.{clients_form, key_form, delta_form, dummy_form, head_at}
-use Rattle.faust_text.specs.Lines.{IsWithout, TextLine, ended_lines, ended_text, lines_of, whole_line}
+use Rattle.faust_text.specs.Lines.{IsWithout, TextLine, ended_lines, lines_of}
 use Rattle.faust_text.specs.Spelled.{SpellsFields}
 use Rattle.faust_text.specs.Tokens.{tokens_of}
 use Rattle.faust_text.proofs.FieldLaws.{bind_ok, fields_spell, ok_same}
 use Rattle.faust_text.proofs.LineLaws.{ended_text-only, lines_of_ended_text}
-use Rattle.faust_script.specs.declared.event.Event.{Event}
 use Rattle.faust_script.specs.declared.script.Script.{Script}
 use Rattle.faust_script.specs.declared.stage.Stage.{Stage}
 use Rattle.faust_script.specs.declared.stage.Stage.TheVariants as stages
-use Rattle.faust_script.specs.Forms.{event_at}
-use Rattle.faust_script.specs.Words.{event_word}
-use Rattle.faust_script.specs.Parsing.{Refusal, after_head, and_then_lines, finished, lines_from, parsed, stage_at, text_at, title_form, with_event}
-use Rattle.faust_script.specs.Scripts.{AreEventLines, AreScriptLines, IsLineText, IsScriptText}
-use Rattle.faust_script.proofs.EventLaws.{event_spells}
-
--- A choice by a test, taken apart.
-chosen : {A : Type 0} (b : Bool) (x y z : A) → cond b x y ≡ z → ((b ≡ true) × (x ≡ z)) ⊎ ((b ≡ false) × (y ≡ z))
-chosen true x y z found = inl (refl, found)
-chosen false x y z found = inr (refl, found)
-
--- A whole line.
-abbrev pub ended_line : List ℕ → TextLine
-ended_line text = record { bytes = text; ended = true }
-
-pub whole_line-only : (line : TextLine) (text : List ℕ) → whole_line line ≡ Ok text → (line ≡ ended_line text) × (length text ≤ 40000)
-whole_line-only line text found =
-    elim (chosen (ltb 40000 (length line.bytes)) (Err causes.TooLong) (cond line.ended (Ok line.bytes) (Err causes.CutOff)) (Ok text) found) [
-      inl long ↦ absurd (let e = long.1 in cc)
-    | inr fits ↦ elim (chosen line.ended (Ok line.bytes) (Err causes.CutOff) (Ok text) fits.1) [
-          inl ended ↦
-            let same : line.bytes ≡ text = ok_same line.bytes text ended.1 in
-            let few : length line.bytes ≤ 40000 = ltb-false _ _ fits.0 in
-            (ap (λ t. record { bytes = line.bytes; ended = t }) ended.0 ∙ ap ended_line same, subst (λ (bs : List ℕ). length bs ≤ 40000) same few)
-        | inr open_end ↦ absurd (let e = open_end.1 in cc)
-        ]
-    ]
-
-whole_line-again : (text : List ℕ) → length text ≤ 40000 → whole_line (ended_line text) ≡ Ok text
-whole_line-again text few = cond-false (ltb 40000 (length text)) (Err causes.TooLong) (Ok text) (le-ltb _ _ few)
-
--- One line of lines that make a script.
-record Step (stage : Stage) (number : ℕ) (lines : List TextLine) (script : Script) : Type 0 where
-  text : List ℕ
-  behind : List TextLine
-  next : Stage
-  lines_are : lines ≡ ended_line text ∷ behind
-  fits : length text ≤ 40000
-  read : text_at stage text ≡ Ok next
-  rest : lines_from next (number + 1) behind ≡ Ok script
-
-after_line : (number : ℕ) (lines : List TextLine) (r : Result Stage Cause) (script : Script) → and_then_lines number (λ next. lines_from next (number + 1) lines) r ≡ Ok script → (next : Stage) × (r ≡ Ok next) × (lines_from next (number + 1) lines ≡ Ok script)
-after_line number lines (Ok next) script found = (next, refl, found)
-after_line number lines (Err cause) script found = absurd (cc)
-
-step_only : (stage : Stage) (number : ℕ) (lines : List TextLine) (script : Script) → (finished stage number ≡ Ok script → ⊥) → lines_from stage number lines ≡ Ok script → Step stage number lines script
-unfolding lines_from stage_at
-step_only stage number [] script unfinished found = absurd (unfinished found)
-step_only stage number (line ∷ lines) script unfinished found =
-    let next = after_line number lines (stage_at stage line) script found in
-    let text = bind_ok (whole_line line) (text_at stage) next.0 next.1 in
-    let whole = whole_line-only line text.0 text.1 in
-    record { text = text.0; behind = lines; next = next.0; lines_are = ap (λ l. l ∷ lines) whole.0; fits = whole.1; read = text.2; rest = next.2 }
-
-pub step_found : (stage next : Stage) (number : ℕ) (text : List ℕ) (lines : List TextLine) → length text ≤ 40000 → text_at stage text ≡ Ok next → lines_from stage number (ended_line text ∷ lines) ≡ lines_from next (number + 1) lines
-unfolding lines_from stage_at
-step_found stage next number text lines few read =
-    ap (λ r. and_then_lines number (λ s. lines_from s (number + 1) lines) (r >>= text_at stage)) (whole_line-again text few)
-    ∙ ap (and_then_lines number (λ s. lines_from s (number + 1) lines)) read
-
--- Behind the end.
-ended_only : (s : Script) (number : ℕ) (lines : List TextLine) (script : Script) → lines_from (stages.Ended s) number lines ≡ Ok script → (lines ≡ []) × (s ≡ script)
-unfolding lines_from stage_at text_at
-ended_only s number [] script found = (refl, cc)
-ended_only s number (line ∷ lines) script found =
-    let next = after_line number lines (stage_at (stages.Ended s) line) script found in
-    let text = bind_ok (whole_line line) (text_at (stages.Ended s)) next.0 next.1 in
-    absurd (let e = text.2 in cc)
-
-pub ended_found : (s : Script) (number : ℕ) → lines_from (stages.Ended s) number [] ≡ Ok s
-unfolding lines_from
-ended_found s number = refl
-
--- The lines behind the head.
-abbrev pub end_text : List ℕ
-end_text = codes "end"
-
-abbrev FitsLine : List ℕ → Type 0
-FitsLine text = length text ≤ 40000
-
-record Rest (s : Script) (lines : List TextLine) (script : Script) : Type 0 where
-  texts : List (List ℕ)
-  events : List Event
-  lines_are : lines ≡ ended_lines (texts ++ end_text ∷ [])
-  fit : AllByRecursion FitsLine (texts ++ end_text ∷ [])
-  spelled : AreEventLines s.config.clients events texts
-  script_is : script ≡ record s { events = s.events ++ events }
-  few : length (s.events ++ events) ≤ 20000
-
-events_unfinished : (s script : Script) (number : ℕ) → finished (stages.Events s) number ≡ Ok script → ⊥
-events_unfinished s script number found = absurd (cc)
-
--- What an event's line does.
-record Item (s : Script) (text : List ℕ) (next : Stage) : Type 0 where
-  event : Event
-  room : length s.events < 20000
-  spelled : event_at s.config.clients (tokens_of text) ≡ Ok event
-  next_is : stages.Events (with_event s event) ≡ next
-
-item_only : (s : Script) (text : List ℕ) (next : Stage) → text_at (stages.Events s) text ≡ Ok next → ((text ≡ end_text) × (stages.Ended s ≡ next)) ⊎ Item s text next
-unfolding text_at
-item_only s text next read =
-    elim (chosen (bytes_eq text end_text) (Ok (stages.Ended s)) (cond (leb 20000 (length s.events)) (Err causes.Events) (event_at s.config.clients (tokens_of text) >>= (λ event. Ok (stages.Events (with_event s event))))) (Ok next) read) [
-      inl end ↦ inl ((bytes_eq-Decides text end_text).0 end.0, ok_same (stages.Ended s) next end.1)
-    | inr other ↦ elim (chosen (leb 20000 (length s.events)) (Err causes.Events) (event_at s.config.clients (tokens_of text) >>= (λ event. Ok (stages.Events (with_event s event)))) (Ok next) other.1) [
-          inl full ↦ absurd (let e = full.1 in cc)
-        | inr room ↦
-            let event = bind_ok (event_at s.config.clients (tokens_of text)) (λ event. Ok (stages.Events (with_event s event))) next room.1 in
-            inr (record { event = event.0; room = leb-false _ _ room.0; spelled = event.1; next_is = ok_same (stages.Events (with_event s event.0)) next event.2 })
-        ]
-    ]
-
-events_only : (s : Script) (number : ℕ) (lines : List TextLine) (script : Script) → length s.events ≤ 20000 → lines_from (stages.Events s) number lines ≡ Ok script → Rest s lines script
-unfolding lines_from stage_at
-events_only s number [] script few found = absurd (events_unfinished s script number found)
-events_only s number (line ∷ lines) script few found =
-    let next = after_line number lines (stage_at (stages.Events s) line) script found in
-    let text = bind_ok (whole_line line) (text_at (stages.Events s)) next.0 next.1 in
-    let whole = whole_line-only line text.0 text.1 in
-    elim (item_only s text.0 next.0 text.2) [
-      inl end ↦
-        let last = ended_only s (number + 1) lines script (ap (λ st. lines_from st (number + 1) lines) end.1 ∙ next.2) in
-        record {
-          texts = [];
-          events = [];
-          lines_are = ap (λ l. l ∷ lines) (whole.0 ∙ ap ended_line end.0) ∙ ap (λ ls. ended_line end_text ∷ ls) last.0;
-          fit = (subst FitsLine end.0 whole.1, tt);
-          spelled = tt;
-          script_is = sym last.1 ∙ ap (λ es. record s { events = es }) (sym (append-nil s.events));
-          few = subst (λ (es : List Event). length es ≤ 20000) (sym (append-nil s.events)) few
-        }
-    | inr item ↦
-        let grown = with_event s item.event in
-        let count : length grown.events ≤ 20000 = omega (arith, item.room, length-append s.events (item.event ∷ [])) in
-        let more = events_only grown (number + 1) lines script count (ap (λ st. lines_from st (number + 1) lines) item.next_is ∙ next.2) in
-        let joined : (s.events ++ item.event ∷ []) ++ more.events ≡ s.events ++ (item.event ∷ more.events) = append_assoc s.events (item.event ∷ []) more.events in
-        record {
-          texts = text.0 ∷ more.texts;
-          events = item.event ∷ more.events;
-          lines_are = ap (λ l. l ∷ lines) whole.0 ∙ ap (λ ls. ended_line text.0 ∷ ls) more.lines_are;
-          fit = (whole.1, more.fit);
-          spelled = ((event_spells s.config.clients item.event (tokens_of text.0)).0 item.spelled, more.spelled);
-          script_is = more.script_is ∙ ap (λ es. record s { events = es }) joined;
-          few = subst (λ (es : List Event). length es ≤ 20000) joined more.few
-        }
-    ]
-
--- The text of an event isn't `end`, and there is room for it.
-event_read : (s : Script) (event : Event) (text : List ℕ) → length s.events < 20000 → event_at s.config.clients (tokens_of text) ≡ Ok event → (text ≡ end_text → ⊥) → text_at (stages.Events s) text ≡ Ok (stages.Events (with_event s event))
-unfolding text_at
-event_read s event text room spelled not_end =
-    cond-false (bytes_eq text end_text) (Ok (stages.Ended s)) _ (false_from_ne_true (bytes_eq text end_text) (λ same. not_end ((bytes_eq-Decides text end_text).0 same)))
-    ∙ (cond-false (leb 20000 (length s.events)) (Err causes.Events) (event_at s.config.clients (tokens_of text) >>= (λ e. Ok (stages.Events (with_event s e)))) (lt-leb _ _ room)
-    ∙ ap (λ r. r >>= (λ e. Ok (stages.Events (with_event s e)))) spelled)
-
-pub end_read : (s : Script) → text_at (stages.Events s) end_text ≡ Ok (stages.Ended s)
-unfolding text_at
-end_read s = refl
-
--- The line `end` is no event.
-end_is_no_event : (n : ℕ) → event_at n (tokens_of end_text) ≡ Err causes.Word
-unfolding event_at event_word tokens_of
-end_is_no_event n = refl
-
-not_the_end : (n : ℕ) (event : Event) (text : List ℕ) → event_at n (tokens_of text) ≡ Ok event → text ≡ end_text → ⊥
-not_the_end n event text spelled same = absurd (let e = sym (ap (λ t. event_at n (tokens_of t)) same ∙ end_is_no_event n) ∙ spelled in cc)
-
-events_found : (s : Script) (number : ℕ) (events : List Event) (texts : List (List ℕ)) → AreEventLines s.config.clients events texts → AllByRecursion FitsLine (texts ++ end_text ∷ []) → length (s.events ++ events) ≤ 20000 → lines_from (stages.Events s) number (ended_lines (texts ++ end_text ∷ [])) ≡ Ok (record s { events = s.events ++ events })
-events_found s number [] [] spelled fit few =
-    step_found (stages.Events s) (stages.Ended s) number end_text [] fit.0 (end_read s)
-    ∙ (ended_found s (number + 1) ∙ ap (λ es. Ok (record s { events = es })) (sym (append-nil s.events)))
-events_found s number [] (text ∷ texts) spelled fit few = absurd spelled
-events_found s number (event ∷ events) [] spelled fit few = absurd spelled
-events_found s number (event ∷ events) (text ∷ texts) spelled fit few =
-    let grown = with_event s event in
-    let joined : (s.events ++ event ∷ []) ++ events ≡ s.events ++ (event ∷ events) = append_assoc s.events (event ∷ []) events in
-    let size = length-append s.events (event ∷ events) in
-    let room : length s.events < 20000 = omega arith in
-    let read = (event_spells s.config.clients event (tokens_of text)).1 spelled.0 in
-    let few_grown : length ((s.events ++ event ∷ []) ++ events) ≤ 20000 = subst (λ (es : List Event). length es ≤ 20000) (sym joined) few in
-    step_found (stages.Events s) (stages.Events grown) number text (ended_lines (texts ++ end_text ∷ [])) fit.0 (event_read s event text room read (not_the_end s.config.clients event text read))
-    ∙ (events_found grown (number + 1) events texts spelled.1 fit.1 few_grown ∙ ap (λ es. Ok (record s { events = es })) joined)
+use Rattle.faust_script.specs.Parsing.{after_head, finished, lines_from, parsed, text_at, title_form}
+use Rattle.faust_script.specs.Scripts.{IsLineText, IsScriptText}
+use Rattle.faust_script.proofs.LineSteps.{FitsLine, Rest, end_text, ended_line, events_found, events_only, step_found, step_only}
 
 -- The title and the head, line by line.
 title_read : (text : List ℕ) → SpellsFields title_form (tt, (tt, tt)) (tokens_of text) → text_at stages.Title text ≡ Ok (stages.Head heads.Clients)
@@ -347,7 +158,7 @@ dummy_lines n key delta number lines script found =
       lines_are = s.lines_are;
       fits = s.fits;
       spelled = dummy.1;
-      rest = events_only (empty_script n key delta dummy.0) (number + 1) s.behind script (no_events_yet n key delta dummy.0) (ap (λ st. lines_from st (number + 1) s.behind) dummy.2 ∙ s.rest)
+      rest = events_only (empty_script n key delta dummy.0) (number + 1) s.behind script (no_events_yet n key delta dummy.0) (ap (λ st. lines_from st (number + 1) s.behind) dummy.2 ∙ s.rest);
     }
 
 delta_lines : (n : ℕ) (key : List ℕ) (number : ℕ) (lines : List TextLine) (script : Script) → lines_from (stages.Head (heads.Delta n key)) number lines ≡ Ok script → AfterDelta n key lines script
@@ -361,7 +172,7 @@ delta_lines n key number lines script found =
       lines_are = s.lines_are;
       fits = s.fits;
       spelled = delta.1;
-      rest = dummy_lines n key delta.0 (number + 1) s.behind script (ap (λ st. lines_from st (number + 1) s.behind) delta.2 ∙ s.rest)
+      rest = dummy_lines n key delta.0 (number + 1) s.behind script (ap (λ st. lines_from st (number + 1) s.behind) delta.2 ∙ s.rest);
     }
 
 key_lines : (n number : ℕ) (lines : List TextLine) (script : Script) → lines_from (stages.Head (heads.Key n)) number lines ≡ Ok script → AfterKey n lines script
@@ -375,7 +186,7 @@ key_lines n number lines script found =
       lines_are = s.lines_are;
       fits = s.fits;
       spelled = key.1;
-      rest = delta_lines n key.0 (number + 1) s.behind script (ap (λ st. lines_from st (number + 1) s.behind) key.2 ∙ s.rest)
+      rest = delta_lines n key.0 (number + 1) s.behind script (ap (λ st. lines_from st (number + 1) s.behind) key.2 ∙ s.rest);
     }
 
 clients_lines : (number : ℕ) (lines : List TextLine) (script : Script) → lines_from (stages.Head heads.Clients) number lines ≡ Ok script → AfterClients lines script
@@ -389,7 +200,7 @@ clients_lines number lines script found =
       lines_are = s.lines_are;
       fits = s.fits;
       spelled = clients.1;
-      rest = key_lines clients.0 (number + 1) s.behind script (ap (λ st. lines_from st (number + 1) s.behind) clients.2 ∙ s.rest)
+      rest = key_lines clients.0 (number + 1) s.behind script (ap (λ st. lines_from st (number + 1) s.behind) clients.2 ∙ s.rest);
     }
 
 title_lines : (number : ℕ) (lines : List TextLine) (script : Script) → lines_from stages.Title number lines ≡ Ok script → AfterTitle lines script
@@ -402,7 +213,7 @@ title_lines number lines script found =
       lines_are = s.lines_are;
       fits = s.fits;
       spelled = title.0;
-      rest = clients_lines (number + 1) s.behind script (ap (λ st. lines_from st (number + 1) s.behind) title.1 ∙ s.rest)
+      rest = clients_lines (number + 1) s.behind script (ap (λ st. lines_from st (number + 1) s.behind) title.1 ∙ s.rest);
     }
 
 -- The texts of the lines of a script.

@@ -1,10 +1,9 @@
 -- Which line of an input is refused, and why: the table of causes in its order.
-use Rattle.std.specs.Prelude.{◌≡◌, ◌≢◌, ℕ, ◌+◌, ◌-◌, ◌<◌, ◌≤◌, Bool, true, false, List, [], ◌∷◌, ◌++◌, length, take, drop, codes, Option, Some, None, Result, Ok, Err, ◌⊎◌}
+use Rattle.std.specs.Prelude.{◌≡◌, ◌≢◌, ℕ, ◌+◌, ◌<◌, ◌≤◌, true, false, List, [], ◌∷◌, ◌++◌, length, take, drop, codes, Option, Some, None, Result, Ok, Err, ◌⊎◌}
 use Rattle.faust_text.specs.declared.cause.Cause.{Cause}
 use Rattle.faust_text.specs.declared.cause.Cause.TheVariants as causes
-use Rattle.faust_text.specs.declared.head.Head.{Head}
 use Rattle.faust_text.specs.declared.head.Head.TheVariants as heads
-use Rattle.faust_text.specs.Fields.{Field, kind, value, bytes, ◌>>=◌}
+use Rattle.faust_text.specs.Fields.{kind, value, bytes, ◌>>=◌}
 use Rattle.faust_text.specs.Heads.{clients_form, key_form, delta_form, dummy_form}
 use Rattle.faust_text.specs.Lines.{TextLine, lines_of}
 use Rattle.faust_text.specs.Spelled.{IsFault, IsFirstFault, SpellsField}

@@ -1,11 +1,9 @@
 -- Which bytes are a script's text: the same as `specs/Parsing.antt` in other words.
-use Rattle.std.specs.Prelude.{◌≡◌, ◌≢◌, ℕ, ◌+◌, ◌-◌, ◌<◌, ◌≤◌, Bool, true, false, List, [], ◌∷◌, ◌++◌, length, take, codes, ◌⊎◌}
+use Rattle.std.specs.Prelude.{◌≡◌, ℕ, ◌≤◌, List, [], ◌∷◌, ◌++◌, length, codes}
 use Rattle.std.specs.List.{AllByRecursion}
-use Rattle.faust_text.specs.declared.cause.Cause.{Cause}
-use Rattle.faust_text.specs.declared.cause.Cause.TheVariants as causes
-use Rattle.faust_text.specs.Fields.{Field, AllGiven, number, kind, value, bytes}
+use Rattle.faust_text.specs.Fields.{Field, AllGiven, kind, value, bytes}
 use Rattle.faust_text.specs.Heads.{clients_form, key_form, delta_form, dummy_form}
-use Rattle.faust_text.specs.Lines.{IsWithout, TextLine, ended_text, lines_of}
+use Rattle.faust_text.specs.Lines.{IsWithout, ended_text}
 use Rattle.faust_text.specs.Spelled.{SpellsField, SpellsFields}
 use Rattle.faust_text.specs.Tokens.{tokens_of}
 use Rattle.faust_script.specs.declared.event.Event.{Event}

@@ -22,9 +22,11 @@ pub use edit::Edit;
 pub use error::ScriptError;
 pub use event::Event;
 pub use laws::{first_refused_lines, scripts_are_their_texts};
+pub use line::read_event;
 pub use parser::parse;
 pub use script::{Events, MAX_EVENTS, Script};
 pub use stage::Stage;
+pub use word::{EditWord, EventWord};
 
 #[cfg(test)]
 mod tests;

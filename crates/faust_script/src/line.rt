@@ -20,7 +20,7 @@ const MAX_BRANCH: u64 = 7;
 /// The event that a line is, in a script for so many clients. A refused line has the cause of its first token that
 /// may not stand there.
 #[tactic(auto, unfolding(crate::specs::Forms::event_at))]
-pub fn event(alloc: Global, line: &[u8], clients: u8) -> Result<Event, LineError>
+pub fn read_event(alloc: Global, line: &[u8], clients: u8) -> Result<Event, LineError>
     ensures { Gives (λ event. event) result (event_at clients (tokens_of line.now)) }
 {
     let mut cursor = Cursor::new(line);
@@ -202,12 +202,12 @@ fn client_and_edit(alloc: Global, cursor: &mut Cursor, clients: u8) -> Result<(u
     ensures { Gives (λ x. x) result (client_and_edit_at clients cursor.old) }
 {
     let client = cursor.client(clients)?;
-    let edit = edit(alloc, cursor, clients)?;
+    let edit = read_edit(alloc, cursor, clients)?;
     Ok((client, edit))
 }
 
 #[tactic(auto, unfolding(crate::specs::Forms::edit_at))]
-fn edit(alloc: Global, cursor: &mut Cursor, clients: u8) -> Result<Edit, LineError>
+fn read_edit(alloc: Global, cursor: &mut Cursor, clients: u8) -> Result<Edit, LineError>
     ensures { Gives (λ edit. edit) result (edit_at clients cursor.old) }
 {
     match cursor.token() {

@@ -4,7 +4,7 @@ ghost use Rattle.faust_text.specs.Lines.{line_in};
 ghost use Rattle.faust_text.specs.Tokens.{tokens_of};
 ghost use Rattle.faust_script.specs.Parsing.{stage_at, text_at, title_form};
 
-use crate::line::event;
+use crate::line::read_event;
 use crate::script::{MAX_EVENTS, Script};
 use faust_text::{Cause, Cursor, Head, HeadStep, Line, LineError, whole_line};
 use faust_types::Sequence;
@@ -81,7 +81,7 @@ fn item(alloc: Global, script: Script, text: &[u8]) -> Result<Stage, LineError>
     if script.events.len() >= MAX_EVENTS {
         return Err(LineError::Refused(Cause::Events));
     }
-    let event = event(alloc, text, script.config.clients)?;
+    let event = read_event(alloc, text, script.config.clients)?;
     let mut script = script;
     script.events.push(event)?;
     Ok(Stage::Events(script))

@@ -1,9 +1,9 @@
 -- Fields and the tokens that spell them.
-use Rattle.std.proofs.Common.{◌≡◌, ℕ, ◌<◌, ◌≤◌, Bool, true, false, cond, leb, ◌&&◌, List, [], ◌∷◌, length, Option, Some, None, Result, Ok, Err, refl, sym, ap, ◌∙◌, subst, ◌⊎◌, ◌↔◌, ◌≢◌, inl, inr, arith}
+use Rattle.std.proofs.Common.{◌≡◌, ℕ, ◌≤◌, Bool, true, false, cond, leb, ◌&&◌, List, [], ◌∷◌, length, Option, Some, None, Result, Ok, Err, refl, sym, ap, ◌∙◌, ◌⊎◌, ◌↔◌, ◌≢◌, inl, inr, arith}
 use Rattle.std.specs.Prelude.{codes}
 use Rattle.std.specs.Result.{result_unwrap_or}
 use Rattle.std.specs.Str.{bytes_eq}
-use Rattle.std.proofs.lemmas.Bool.{cases_Bool, cond-true, cond-false, and_parts, and_from, and_cases, leb-true, leb-false, le-leb, both_ways, false_from_ne_true, false≢true, and_left, and_right, lt-leb}
+use Rattle.std.proofs.lemmas.Bool.{cond-true, cond-false, and_parts, and_from, and_cases, leb-true, leb-false, le-leb, both_ways, false_from_ne_true, false≢true, and_left, and_right, lt-leb}
 use Rattle.std.proofs.lemmas.Slice.Eq.{bytes_eq-Decides}
 use Rattle.hex.specs.Hex.{encode_lower, decode_pairs}
 use Rattle.faust_types.specs.Ranges.{AreBytes}
@@ -11,7 +11,7 @@ use Rattle.faust_types.specs.declared.operation.Kind.{Kind}
 use Rattle.faust_types.specs.declared.operation.Kind.TheVariants as kinds
 use Rattle.faust_text.specs.declared.cause.Cause.{Cause}
 use Rattle.faust_text.specs.declared.cause.Cause.TheVariants as causes
-use Rattle.faust_text.specs.Fields.{Field, Given, AllGiven, begins_as_value, word, number, any_number, kind, value, bytes, key, ◌>>=◌, or_cause, some_key, number_in, field_at, next_field, ended, fields_at}
+use Rattle.faust_text.specs.Fields.{Field, Given, AllGiven, begins_as_value, word, number, any_number, kind, value, bytes, key, ◌>>=◌, or_cause, some_key, field_at, fields_at}
 use Rattle.faust_text.specs.Numbers.{is_number, worth}
 use Rattle.faust_text.specs.Spelled.{IsNumberIn, kind_text, SpellsField, SpellsFields, IsFault, IsFirstFault}
 use Rattle.faust_text.specs.Values.{SpellsValue, bytes_of, bytes_text, hex_of, value_of}
@@ -46,9 +46,9 @@ word_spells : (text token : List ℕ) (given : Unit {0}) → (field_at (word tex
 unfolding field_at
 word_spells text token given = (
   λ found. elim (chosen (bytes_eq token text) (Ok tt) (Err causes.Word) (Ok given) found) [
-      inl same ↦ (bytes_eq-Decides token text).0 same.0
+    | inl same ↦ (bytes_eq-Decides token text).0 same.0
     | inr other ↦ absurd (let e = other.1 in cc)
-    ],
+  ],
   λ same. cond-true (bytes_eq token text) (Ok tt) (Err causes.Word) ((bytes_eq-Decides token text).1 same),
 )
 
@@ -56,31 +56,31 @@ number_spells : (low high : ℕ) (token : List ℕ) (x : ℕ) → (field_at (num
 unfolding field_at
 number_spells low high token x = (
   λ found. elim (chosen (is_number token) (cond (leb low (worth token) && leb (worth token) high) (Ok (worth token)) (Err causes.Number)) (Err causes.Word) (Ok x) found) [
-      inl digits ↦ elim (chosen (leb low (worth token) && leb (worth token) high) (Ok (worth token)) (Err causes.Number) (Ok x) digits.1) [
-          inl fits ↦
-            let parts = and_parts _ _ fits.0 in
-            let same : worth token ≡ x = ok_same (worth token) x fits.1 in
-            let from : low ≤ worth token = leb-true _ _ parts.0 in
-            let to : worth token ≤ high = leb-true _ _ parts.1 in
-            record { digits = digits.0; worth_it = same; from = omega arith; to = omega arith }
-        | inr other ↦ absurd (let e = other.1 in cc)
-        ]
+    | inl digits ↦ elim (chosen (leb low (worth token) && leb (worth token) high) (Ok (worth token)) (Err causes.Number) (Ok x) digits.1) [
+      | inl fits ↦
+          let parts = and_parts _ _ fits.0 in
+          let same : worth token ≡ x = ok_same (worth token) x fits.1 in
+          let from : low ≤ worth token = leb-true _ _ parts.0 in
+          let to : worth token ≤ high = leb-true _ _ parts.1 in
+          record { digits = digits.0; worth_it = same; from = omega arith; to = omega arith }
+      | inr other ↦ absurd (let e = other.1 in cc)
+    ]
     | inr other ↦ absurd (let e = other.1 in cc)
-    ],
+  ],
   λ is.
-    let from : low ≤ worth token = omega (arith, is.worth_it, is.from) in
-    let to : worth token ≤ high = omega (arith, is.worth_it, is.to) in
-    cond-true (is_number token) (cond (leb low (worth token) && leb (worth token) high) (Ok (worth token)) (Err causes.Number)) (Err causes.Word) is.digits
-    ∙ (cond-true (leb low (worth token) && leb (worth token) high) (Ok (worth token)) (Err causes.Number) (and_from _ _ (le-leb _ _ from) (le-leb _ _ to)) ∙ ap Ok is.worth_it),
+      let from : low ≤ worth token = omega (arith, is.worth_it, is.from) in
+      let to : worth token ≤ high = omega (arith, is.worth_it, is.to) in
+      cond-true (is_number token) (cond (leb low (worth token) && leb (worth token) high) (Ok (worth token)) (Err causes.Number)) (Err causes.Word) is.digits
+      ∙ (cond-true (leb low (worth token) && leb (worth token) high) (Ok (worth token)) (Err causes.Number) (and_from _ _ (le-leb _ _ from) (le-leb _ _ to)) ∙ ap Ok is.worth_it),
 )
 
 any_number_spells : (token given : List ℕ) → (field_at any_number token ≡ Ok given) ↔ ((is_number token ≡ true) × (given ≡ token))
 unfolding field_at
 any_number_spells token given = (
   λ found. elim (chosen (is_number token) (Ok token) (Err causes.Word) (Ok given) found) [
-      inl digits ↦ (digits.0, sym (ok_same token given digits.1))
+    | inl digits ↦ (digits.0, sym (ok_same token given digits.1))
     | inr other ↦ absurd (let e = other.1 in cc)
-    ],
+  ],
   λ is. cond-true (is_number token) (Ok token) (Err causes.Word) is.0 ∙ ap Ok (sym is.1),
 )
 
@@ -93,12 +93,12 @@ kind_spells : (token : List ℕ) (given : Kind) → (field_at kind token ≡ Ok 
 unfolding field_at
 kind_spells token given = (
   λ found. elim (chosen (bytes_eq token (codes "write")) (Ok kinds.Write) (cond (bytes_eq token (codes "read")) (Ok kinds.Read) (Err causes.Word)) (Ok given) found) [
-      inl write ↦ (bytes_eq-Decides token (codes "write")).0 write.0 ∙ ap kind_text (ok_same kinds.Write given write.1)
+    | inl write ↦ (bytes_eq-Decides token (codes "write")).0 write.0 ∙ ap kind_text (ok_same kinds.Write given write.1)
     | inr more ↦ elim (chosen (bytes_eq token (codes "read")) (Ok kinds.Read) (Err causes.Word) (Ok given) more.1) [
-          inl read ↦ (bytes_eq-Decides token (codes "read")).0 read.0 ∙ ap kind_text (ok_same kinds.Read given read.1)
-        | inr other ↦ absurd (let e = other.1 in cc)
-        ]
-    ],
+      | inl read ↦ (bytes_eq-Decides token (codes "read")).0 read.0 ∙ ap kind_text (ok_same kinds.Read given read.1)
+      | inr other ↦ absurd (let e = other.1 in cc)
+    ]
+  ],
   λ same. ap (field_at kind) same ∙ kind_again given,
 )
 
@@ -106,24 +106,24 @@ value_spells : (token given : List ℕ) → (field_at value token ≡ Ok given) 
 unfolding field_at
 value_spells token given = (
   λ found. elim (chosen (begins_as_value token) (or_cause (value_of 4096 token) causes.Value) (Err causes.Word) (Ok given) found) [
-      inl begins ↦ (values_are 4096 token given).0 (or_cause-ok (value_of 4096 token) causes.Value given begins.1)
+    | inl begins ↦ (values_are 4096 token given).0 (or_cause-ok (value_of 4096 token) causes.Value given begins.1)
     | inr other ↦ absurd (let e = other.1 in cc)
-    ],
+  ],
   λ is.
-    let begins : begins_as_value token ≡ true = elim is.0 [ inl quoted ↦ ap begins_as_value quoted.1 | inr hex ↦ ap begins_as_value hex ] in
-    cond-true (begins_as_value token) (or_cause (value_of 4096 token) causes.Value) (Err causes.Word) begins ∙ ap (λ o. or_cause o causes.Value) ((values_are 4096 token given).1 is),
+      let begins : begins_as_value token ≡ true = elim is.0 [ inl quoted ↦ ap begins_as_value quoted.1 | inr hex ↦ ap begins_as_value hex ] in
+      cond-true (begins_as_value token) (or_cause (value_of 4096 token) causes.Value) (Err causes.Word) begins ∙ ap (λ o. or_cause o causes.Value) ((values_are 4096 token given).1 is),
 )
 
 bytes_spells : (token given : List ℕ) → (field_at bytes token ≡ Ok given) ↔ ((token ≡ bytes_text given) × (length given ≤ 16384) × AreBytes given)
 unfolding field_at
 bytes_spells token given = (
   λ found. elim (chosen (begins_as_value token) (or_cause (bytes_of 16384 token) causes.Value) (Err causes.Word) (Ok given) found) [
-      inl begins ↦ (bytes_are 16384 token given).0 (or_cause-ok (bytes_of 16384 token) causes.Value given begins.1)
+    | inl begins ↦ (bytes_are 16384 token given).0 (or_cause-ok (bytes_of 16384 token) causes.Value given begins.1)
     | inr other ↦ absurd (let e = other.1 in cc)
-    ],
+  ],
   λ is.
-    let begins : begins_as_value token ≡ true = ap begins_as_value is.0 in
-    cond-true (begins_as_value token) (or_cause (bytes_of 16384 token) causes.Value) (Err causes.Word) begins ∙ ap (λ o. or_cause o causes.Value) ((bytes_are 16384 token given).1 is),
+      let begins : begins_as_value token ≡ true = ap begins_as_value is.0 in
+      cond-true (begins_as_value token) (or_cause (bytes_of 16384 token) causes.Value) (Err causes.Word) begins ∙ ap (λ o. or_cause o causes.Value) ((bytes_are 16384 token given).1 is),
 )
 
 some_key-ok : (o : Option (List ℕ)) (x : List ℕ) → some_key o ≡ Ok x → (o ≡ Some x) × (1 ≤ length x)
@@ -139,9 +139,9 @@ key_spells : (token given : List ℕ) → (field_at key token ≡ Ok given) ↔ 
 unfolding field_at
 key_spells token given = (
   λ found.
-    let some = some_key-ok (hex_of 128 token) given found in
-    let hex = (hex-are 128 token given).0 some.0 in
-    (hex.0, some.1, hex.1, hex.2),
+      let some = some_key-ok (hex_of 128 token) given found in
+      let hex = (hex-are 128 token given).0 some.0 in
+      (hex.0, some.1, hex.1, hex.2),
   λ is. ap some_key ((hex-are 128 token given).1 (is.0, is.2, is.3)) ∙ some_key-again given is.1,
 )
 
@@ -167,14 +167,14 @@ fields_spell (field ∷ fields) [] given = (λ found. absurd (cc), λ is. absurd
 fields_spell (field ∷ fields) (token ∷ tokens) given =
     let flat = first_then (field_at field token) tokens (λ first. fields_at fields first.1 >>= (λ rest. Ok (first.0, rest))) in (
       λ found.
-        let first = bind_ok (field_at field token) (λ x. fields_at fields tokens >>= (λ rest. Ok (x, rest))) given (sym flat ∙ found) in
-        let rest = bind_ok (fields_at fields tokens) (λ xs. Ok (first.0, xs)) given first.2 in
-        let same : (first.0, rest.0) ≡ given = ok_same (first.0, rest.0) given rest.2 in
-        ((field_spells field token given.0).0 (first.1 ∙ ap (λ g. Ok g.0) same), (fields_spell fields tokens given.1).0 (rest.1 ∙ ap (λ g. Ok g.1) same)),
+          let first = bind_ok (field_at field token) (λ x. fields_at fields tokens >>= (λ rest. Ok (x, rest))) given (sym flat ∙ found) in
+          let rest = bind_ok (fields_at fields tokens) (λ xs. Ok (first.0, xs)) given first.2 in
+          let same : (first.0, rest.0) ≡ given = ok_same (first.0, rest.0) given rest.2 in
+          ((field_spells field token given.0).0 (first.1 ∙ ap (λ g. Ok g.0) same), (fields_spell fields tokens given.1).0 (rest.1 ∙ ap (λ g. Ok g.1) same)),
       λ is.
-        flat
-        ∙ (ap (λ r. r >>= (λ x. fields_at fields tokens >>= (λ rest. Ok (x, rest)))) ((field_spells field token given.0).1 is.0)
-        ∙ ap (λ r. r >>= (λ rest. Ok (given.0, rest))) ((fields_spell fields tokens given.1).1 is.1)),
+          flat
+          ∙ (ap (λ r. r >>= (λ x. fields_at fields tokens >>= (λ rest. Ok (x, rest)))) ((field_spells field token given.0).1 is.0)
+          ∙ ap (λ r. r >>= (λ rest. Ok (given.0, rest))) ((fields_spell fields tokens given.1).1 is.1)),
     )
 
 -- Why a token is refused in a field, and no other cause.
@@ -182,9 +182,9 @@ word_faults : (text token : List ℕ) (cause : Cause) → (field_at (word text) 
 unfolding field_at
 word_faults text token cause = (
   λ found. elim (chosen (bytes_eq token text) (Ok tt) (Err causes.Word) (Err cause) found) [
-      inl same ↦ absurd (let e = same.1 in cc)
+    | inl same ↦ absurd (let e = same.1 in cc)
     | inr other ↦ (let e = other.1 in cc, λ same. both_ways (bytes_eq token text) other.0 ((bytes_eq-Decides token text).1 same))
-    ],
+  ],
   λ is. cond-false (bytes_eq token text) (Ok tt) (Err causes.Word) (false_from_ne_true (bytes_eq token text) (λ same. is.1 ((bytes_eq-Decides token text).0 same))) ∙ ap Err (sym is.0),
 )
 
@@ -192,28 +192,28 @@ number_faults : (low high : ℕ) (token : List ℕ) (cause : Cause) → (field_a
 unfolding field_at
 number_faults low high token cause = (
   λ found. elim (chosen (is_number token) (cond (leb low (worth token) && leb (worth token) high) (Ok (worth token)) (Err causes.Number)) (Err causes.Word) (Err cause) found) [
-      inl digits ↦ elim (chosen (leb low (worth token) && leb (worth token) high) (Ok (worth token)) (Err causes.Number) (Err cause) digits.1) [
-          inl fits ↦ absurd (let e = fits.1 in cc)
-        | inr out ↦ inr (let e = out.1 in cc, digits.0, elim (and_cases _ _ out.0) [ inl below ↦ inl (leb-false _ _ below) | inr above ↦ inr (leb-false _ _ above) ])
-        ]
+    | inl digits ↦ elim (chosen (leb low (worth token) && leb (worth token) high) (Ok (worth token)) (Err causes.Number) (Err cause) digits.1) [
+      | inl fits ↦ absurd (let e = fits.1 in cc)
+      | inr out ↦ inr (let e = out.1 in cc, digits.0, elim (and_cases _ _ out.0) [ inl below ↦ inl (leb-false _ _ below) | inr above ↦ inr (leb-false _ _ above) ])
+    ]
     | inr other ↦ inl (let e = other.1 in cc, other.0)
-    ],
+  ],
   λ is. elim is [
-      inl no_number ↦ cond-false (is_number token) (cond (leb low (worth token) && leb (worth token) high) (Ok (worth token)) (Err causes.Number)) (Err causes.Word) no_number.1 ∙ ap Err (sym no_number.0)
+    | inl no_number ↦ cond-false (is_number token) (cond (leb low (worth token) && leb (worth token) high) (Ok (worth token)) (Err causes.Number)) (Err causes.Word) no_number.1 ∙ ap Err (sym no_number.0)
     | inr out ↦
         let range : (leb low (worth token) && leb (worth token) high) ≡ false = elim out.2 [ inl below ↦ and_left _ _ (lt-leb _ _ below) | inr above ↦ and_right _ _ (lt-leb _ _ above) ] in
         cond-true (is_number token) (cond (leb low (worth token) && leb (worth token) high) (Ok (worth token)) (Err causes.Number)) (Err causes.Word) out.1
         ∙ (cond-false (leb low (worth token) && leb (worth token) high) (Ok (worth token)) (Err causes.Number) range ∙ ap Err (sym out.0))
-    ],
+  ],
 )
 
 any_number_faults : (token : List ℕ) (cause : Cause) → (field_at any_number token ≡ Err cause) ↔ ((cause ≡ causes.Word) × (is_number token ≡ false))
 unfolding field_at
 any_number_faults token cause = (
   λ found. elim (chosen (is_number token) (Ok token) (Err causes.Word) (Err cause) found) [
-      inl digits ↦ absurd (let e = digits.1 in cc)
+    | inl digits ↦ absurd (let e = digits.1 in cc)
     | inr other ↦ (let e = other.1 in cc, other.0)
-    ],
+  ],
   λ is. cond-false (is_number token) (Ok token) (Err causes.Word) is.1 ∙ ap Err (sym is.0),
 )
 
@@ -225,17 +225,17 @@ kind_faults : (token : List ℕ) (cause : Cause) → (field_at kind token ≡ Er
 unfolding field_at
 kind_faults token cause = (
   λ found. elim (chosen (bytes_eq token (codes "write")) (Ok kinds.Write) (cond (bytes_eq token (codes "read")) (Ok kinds.Read) (Err causes.Word)) (Err cause) found) [
-      inl write ↦ absurd (let e = write.1 in cc)
+    | inl write ↦ absurd (let e = write.1 in cc)
     | inr more ↦ elim (chosen (bytes_eq token (codes "read")) (Ok kinds.Read) (Err causes.Word) (Err cause) more.1) [
-          inl read ↦ absurd (let e = read.1 in cc)
-        | inr other ↦ (let e = other.1 in cc, λ given same. neither_kind token given more.0 other.0 same)
-        ]
-    ],
+      | inl read ↦ absurd (let e = read.1 in cc)
+      | inr other ↦ (let e = other.1 in cc, λ given same. neither_kind token given more.0 other.0 same)
+    ]
+  ],
   λ is.
-    let write : bytes_eq token (codes "write") ≡ false = false_from_ne_true _ (λ same. is.1 kinds.Write ((bytes_eq-Decides token (codes "write")).0 same)) in
-    let read : bytes_eq token (codes "read") ≡ false = false_from_ne_true _ (λ same. is.1 kinds.Read ((bytes_eq-Decides token (codes "read")).0 same)) in
-    cond-false (bytes_eq token (codes "write")) (Ok kinds.Write) (cond (bytes_eq token (codes "read")) (Ok kinds.Read) (Err causes.Word)) write
-    ∙ (cond-false (bytes_eq token (codes "read")) (Ok kinds.Read) (Err causes.Word) read ∙ ap Err (sym is.0)),
+      let write : bytes_eq token (codes "write") ≡ false = false_from_ne_true _ (λ same. is.1 kinds.Write ((bytes_eq-Decides token (codes "write")).0 same)) in
+      let read : bytes_eq token (codes "read") ≡ false = false_from_ne_true _ (λ same. is.1 kinds.Read ((bytes_eq-Decides token (codes "read")).0 same)) in
+      cond-false (bytes_eq token (codes "write")) (Ok kinds.Write) (cond (bytes_eq token (codes "read")) (Ok kinds.Read) (Err causes.Word)) write
+      ∙ (cond-false (bytes_eq token (codes "read")) (Ok kinds.Read) (Err causes.Word) read ∙ ap Err (sym is.0)),
 )
 
 none_spelled : (o : Option (List ℕ)) → o ≡ None → (x : List ℕ) → o ≡ Some x → ⊥
@@ -261,13 +261,13 @@ unfolding field_at
 value_faults token cause =
     let law = value_like (begins_as_value token) (value_of 4096 token) cause in (
       λ found. elim (law.0 found) [
-          inl other ↦ inl other
+        | inl other ↦ inl other
         | inr none ↦ inr (none.0, none.1, λ given is. none_spelled _ none.2 given ((values_are 4096 token given).1 is))
-        ],
+      ],
       λ is. law.1 (elim is [
-          inl other ↦ inl other
+        | inl other ↦ inl other
         | inr none ↦ inr (none.0, none.1, none_from _ (λ given some. none.2 given ((values_are 4096 token given).0 some)))
-        ]),
+      ]),
     )
 
 bytes_faults : (token : List ℕ) (cause : Cause) → (field_at bytes token ≡ Err cause) ↔ IsFault bytes token cause
@@ -275,13 +275,13 @@ unfolding field_at
 bytes_faults token cause =
     let law = value_like (begins_as_value token) (bytes_of 16384 token) cause in (
       λ found. elim (law.0 found) [
-          inl other ↦ inl other
+        | inl other ↦ inl other
         | inr none ↦ inr (none.0, none.1, λ given is. none_spelled _ none.2 given ((bytes_are 16384 token given).1 is))
-        ],
+      ],
       λ is. law.1 (elim is [
-          inl other ↦ inl other
+        | inl other ↦ inl other
         | inr none ↦ inr (none.0, none.1, none_from _ (λ given some. none.2 given ((bytes_are 16384 token given).0 some)))
-        ]),
+      ]),
     )
 
 some_key-err : (o : Option (List ℕ)) (cause : Cause) → some_key o ≡ Err cause → (cause ≡ causes.Value) × ((x : List ℕ) → o ≡ Some x → 1 ≤ length x → ⊥)
@@ -298,8 +298,8 @@ key_faults : (token : List ℕ) (cause : Cause) → (field_at key token ≡ Err 
 unfolding field_at
 key_faults token cause = (
   λ found.
-    let none = some_key-err (hex_of 128 token) cause found in
-    (none.0, λ given is. none.1 given ((hex-are 128 token given).1 (is.0, is.2, is.3)) is.1),
+      let none = some_key-err (hex_of 128 token) cause found in
+      (none.0, λ given is. none.1 given ((hex-are 128 token given).1 (is.0, is.2, is.3)) is.1),
   λ is. some_key-none (hex_of 128 token) (λ x some more. let hex = (hex-are 128 token x).0 some in is.1 x (hex.0, more, hex.1, hex.2)) ∙ ap Err (sym is.0),
 )
 
@@ -330,19 +330,18 @@ fields_fault (field ∷ fields) [] cause = (λ found. cc, λ is. ap Err (sym is)
 fields_fault (field ∷ fields) (token ∷ tokens) cause =
     let flat = first_then (field_at field token) tokens (λ first. fields_at fields first.1 >>= (λ rest. Ok (first.0, rest))) in (
       λ found. elim (bind_err (field_at field token) (λ x. fields_at fields tokens >>= (λ rest. Ok (x, rest))) cause (sym flat ∙ found)) [
-          inl here ↦ inl ((field_faults field token cause).0 here)
+        | inl here ↦ inl ((field_faults field token cause).0 here)
         | inr behind ↦ inr (behind.0, (field_spells field token behind.0).0 behind.1, (fields_fault fields tokens cause).0 (rest_err (fields_at fields tokens) behind.0 cause behind.2))
-        ],
+      ],
       λ is.
-        let behind_first : (field_at field token >>= after_first field fields tokens) ≡ Err cause = elim is [
-          inl here ↦ ap (λ r. r >>= after_first field fields tokens) ((field_faults field token cause).1 here)
-        | inr behind ↦
-            ap (λ r. r >>= after_first field fields tokens) ((field_spells field token behind.0).1 behind.1)
-            ∙ ap (λ r. r >>= with_first field fields behind.0) ((fields_fault fields tokens cause).1 behind.2)
-        ] in
-        flat ∙ behind_first,
+          let behind_first : (field_at field token >>= after_first field fields tokens) ≡ Err cause = elim is [
+            | inl here ↦ ap (λ r. r >>= after_first field fields tokens) ((field_faults field token cause).1 here)
+            | inr behind ↦
+                ap (λ r. r >>= after_first field fields tokens) ((field_spells field token behind.0).1 behind.1)
+                ∙ ap (λ r. r >>= with_first field fields behind.0) ((fields_fault fields tokens cause).1 behind.2)
+          ] in
+          flat ∙ behind_first,
     )
-
 
 -- The shortest key.
 pub key_00 : field_at key (codes "00") ≡ Ok (0 ∷ [])

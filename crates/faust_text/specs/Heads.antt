@@ -1,6 +1,5 @@
 -- The head of a text, from its second line on: `clients NUM`, `key HEX`, `delta NUM` and `dummy NUM`.
-use Rattle.std.specs.Prelude.{ℕ, ◌^◌, ◌-◌, List, [], ◌∷◌, codes, Result, Ok, Err}
-use Rattle.faust_types.specs.declared.config.Config.{Config}
+use Rattle.std.specs.Prelude.{ℕ, ◌^◌, ◌-◌, List, [], ◌∷◌, codes, Result, Ok}
 use Rattle.faust_text.specs.declared.cause.Cause.{Cause}
 use Rattle.faust_text.specs.declared.head.Head.{Head}
 use Rattle.faust_text.specs.declared.head.Head.TheVariants.{Clients, Key, Delta, Dummy}

@@ -1,5 +1,5 @@
 -- Which tokens spell a field, and which are refused there: the same as `specs/Fields.antt` in other words.
-use Rattle.std.specs.Prelude.{◌≡◌, ◌≢◌, ℕ, ◌<◌, ◌≤◌, Bool, true, false, List, [], ◌∷◌, length, codes, ◌⊎◌}
+use Rattle.std.specs.Prelude.{◌≡◌, ◌≢◌, ℕ, ◌<◌, ◌≤◌, true, false, List, [], ◌∷◌, length, codes, ◌⊎◌}
 use Rattle.hex.specs.Hex.{encode_lower}
 use Rattle.faust_types.specs.Ranges.{AreBytes}
 use Rattle.faust_types.specs.declared.operation.Kind.{Kind}

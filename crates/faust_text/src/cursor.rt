@@ -3,15 +3,13 @@ ghost use Rattle.faust_types.specs.Clients.{IsClient};
 ghost use Rattle.faust_text.specs.Tokens.{tokens_of};
 ghost use Rattle.faust_text.specs.Fields.{Gives, any_number, bytes, ended, key, kind, next_field, number, value, word};
 
-use std::alloc::Global;
-use std::marker::Model;
-
-use faust_types::{Bytes, Kind};
-
 use crate::cause::Cause;
 use crate::error::LineError;
 use crate::field;
 use crate::token::split_token;
+use faust_types::{Bytes, Kind};
+use std::alloc::Global;
+use std::marker::Model;
 
 /// Goes over the tokens of a line from left to right, each read as a field. Contracts see the tokens that are left.
 /// A missing token is refused as `Word`.

@@ -2,9 +2,8 @@ ghost use Rattle.std.specs.Prelude.{◌≡◌};
 ghost use Rattle.faust_text.specs.declared.error.ValueError.TheVariants.{OutOfMemory as NoMemory};
 ghost use Rattle.faust_text.specs.declared.error.LineError.TheVariants.{OutOfMemory as LineMemory};
 
-use faust_types::OutOfMemory;
-
 use crate::cause::Cause;
+use faust_types::OutOfMemory;
 use std::error::Error;
 use std::fmt;
 

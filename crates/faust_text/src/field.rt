@@ -2,16 +2,16 @@
 ghost use Rattle.std.specs.Prelude.{◌≡◌, ◌≤◌, IfOk};
 ghost use Rattle.faust_text.specs.Fields.{Gives, any_number, begins_as_value, bytes, field_at, key, kind, number, value, word};
 
-use std::alloc::Global;
-
-use faust_types::{Bytes, Kind, MAX_KEY_LEN, MAX_MESSAGE_LEN, MAX_VALUE_LEN};
-
 use crate::cause::Cause;
 use crate::error::{LineError, ValueError};
 use crate::{numeral, spelling};
+use faust_types::{Bytes, Kind, MAX_KEY_LEN, MAX_MESSAGE_LEN, MAX_VALUE_LEN};
+use std::alloc::Global;
 
 const WORD: LineError = LineError::Refused(Cause::Word);
+
 const NUMBER: LineError = LineError::Refused(Cause::Number);
+
 const VALUE: LineError = LineError::Refused(Cause::Value);
 
 #[tactic(auto, unfolding(crate::specs::Fields::field_at))]
@@ -40,7 +40,11 @@ pub(crate) fn number(token: &[u8], low: u64, high: u64) -> Result<u64, LineError
 pub(crate) fn any_number(token: &[u8]) -> Result<&[u8], LineError>
     ensures { Gives (λ given. given.now) result (field_at any_number token.now) }
 {
-    if numeral::is_number(token) { Ok(token) } else { Err(WORD) }
+    if numeral::is_number(token) {
+        Ok(token)
+    } else {
+        Err(WORD)
+    }
 }
 
 #[tactic(auto, unfolding(crate::specs::Fields::field_at))]

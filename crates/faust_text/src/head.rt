@@ -3,30 +3,19 @@ ghost use Rattle.faust_text.specs.Fields.{Gives, fields_at, number, word};
 ghost use Rattle.faust_text.specs.Heads.{head_at, key_form};
 ghost use Rattle.faust_text.specs.Tokens.{tokens_of};
 
-use std::alloc::Global;
-
-use faust_types::{Bytes, Config, MAX_CLIENTS, MAX_TIMESTAMP};
-
 use crate::cursor::Cursor;
 use crate::error::LineError;
+use faust_types::{Bytes, Config, MAX_CLIENTS, MAX_TIMESTAMP};
+use std::alloc::Global;
 
 /// What was read of the head of a text, behind its first line; the name says which line is due: `clients NUM`,
 /// `key HEX`, `delta NUM` or `dummy NUM`.
 #[derive(Debug, Drop)]
 pub enum Head {
     Clients,
-    Key {
-        clients: u8,
-    },
-    Delta {
-        clients: u8,
-        key: Bytes,
-    },
-    Dummy {
-        clients: u8,
-        key: Bytes,
-        delta: u64,
-    },
+    Key { clients: u8 },
+    Delta { clients: u8, key: Bytes },
+    Dummy { clients: u8, key: Bytes, delta: u64 },
 }
 
 /// A head after one more line.

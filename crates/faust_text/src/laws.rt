@@ -43,5 +43,4 @@ pub fn values_are_their_spellings()
 pub fn fields_are_their_spellings()
     ensures spelled { (fields : List Field) (tokens : List (List ℕ)) (given : AllGiven fields) → (fields_at fields tokens ≡ Ok given) ↔ SpellsFields fields given tokens }
     ensures refused { (fields : List Field) (tokens : List (List ℕ)) (cause : Cause) → (fields_at fields tokens ≡ Err cause) ↔ IsFirstFault fields tokens cause }
-{
-}
+{}

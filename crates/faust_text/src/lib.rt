@@ -26,8 +26,8 @@ pub use cursor::Cursor;
 pub use error::{LineError, ValueError};
 pub use head::{Head, HeadStep};
 pub use laws::{
-    fields_are_their_spellings, joined_tokens_are_read, lines_are_the_input, numbers_are_their_digits,
-    values_are_their_spellings,
+    fields_are_their_spellings, joined_tokens_are_read, lines_are_the_input,
+    numbers_are_their_digits, values_are_their_spellings,
 };
 pub use line::{Line, Lines, MAX_LINE_LEN, Span, line_at, lines, whole_line};
 pub use numeral::{is_number, number};

@@ -2,9 +2,8 @@ ghost use Rattle.std.specs.Prelude.{◌≡◌, ◌≤◌, length, IfOk, MatchRes
 ghost use Rattle.faust_text.specs.Lines.{line_places, line_in, IsLineAt, whole_line};
 ghost use Rattle.faust_text.specs.Tokens.{len_before};
 
-use faust_types::{OutOfMemory, Sequence};
-
 use crate::cause::Cause;
+use faust_types::{OutOfMemory, Sequence};
 use std::alloc::Global;
 
 /// The most bytes of a line, without its line feed.
@@ -67,7 +66,11 @@ pub fn whole_line(input: &[u8], line: Line) -> Result<&[u8], Cause>
     if text.len() > MAX_LINE_LEN {
         return Err(Cause::TooLong);
     }
-    if line.ended { Ok(text) } else { Err(Cause::CutOff) }
+    if line.ended {
+        Ok(text)
+    } else {
+        Err(Cause::CutOff)
+    }
 }
 
 /// How many bytes stand before the first of a kind: all where there is none.

@@ -1,8 +1,8 @@
 use crate::{
-    Cause, Line, Span, ValueError, bytes, hex_bytes, line_at, lines, number, put_hex, put_number,
-    put_value, split_token, tokens, value,
+    Cause, Cursor, Head, HeadStep, Line, LineError, Span, ValueError, bytes, hex_bytes, line_at,
+    lines, number, put_hex, put_number, put_value, split_token, tokens, value,
 };
-use faust_types::{OutOfMemory, Sequence};
+use faust_types::{Kind, OutOfMemory, Sequence};
 use std::test::Fail;
 
 fn span(start: usize, end: usize) -> Span {
@@ -181,4 +181,54 @@ fn values_are_printed(rt: HostRuntime) -> Result<(), OutOfMemory> {
     assert_eq!(rt; out.as_slice(), b"=01ab".as_slice());
     assert_eq!(rt; Cause::AfterEnd.text(), "after end");
     Ok(())
+}
+
+#[test]
+fn fields_are_read(rt: HostRuntime) -> Result<(), Fail> {
+    let mut cursor = Cursor::new(b"edit 12 write 007 18446744073709551616 \"a b\"");
+    cursor.word(b"edit")?;
+    assert_eq!(rt; cursor.client(12)?, 12);
+    assert_eq!(rt; cursor.kind()?, Kind::Write);
+    assert_eq!(rt;
+        cursor.any_number().err(),
+        Some(LineError::Refused(Cause::Word))
+    );
+    assert_eq!(rt; cursor.any_number()?, b"18446744073709551616".as_slice());
+    assert_eq!(rt; cursor.value(rt.alloc())?.as_slice(), b"a b".as_slice());
+    assert_eq!(rt; cursor.end(), Ok(()));
+    assert_eq!(rt;
+        cursor.number(0, 7).err(),
+        Some(LineError::Refused(Cause::Word))
+    );
+    let mut cursor = Cursor::new(b"8 0x0a 00ff more");
+    assert_eq!(rt;
+        cursor.number(0, 7).err(),
+        Some(LineError::Refused(Cause::Number))
+    );
+    assert_eq!(rt; cursor.bytes(rt.alloc())?.as_slice(), b"\x0a".as_slice());
+    assert_eq!(rt; cursor.key(rt.alloc())?.as_slice(), b"\x00\xff".as_slice());
+    assert_eq!(rt; cursor.end(), Err(LineError::Refused(Cause::Word)));
+    Ok(())
+}
+
+#[test]
+fn heads_are_read(rt: HostRuntime) -> Result<(), Fail> {
+    let lines: [&[u8]; 3] = [b"clients 32", b"key 0a0b", b"delta 1099511627775"];
+    let mut head = Head::Clients;
+    for line in lines.iter() {
+        head = match head.read(rt.alloc(), line)? {
+            HeadStep::Next(head) => head,
+            HeadStep::Whole(_) => return Err(Fail::from("whole too early")),
+        };
+    }
+    match head.read(rt.alloc(), b"dummy 1")? {
+        HeadStep::Next(_) => Err(Fail::from("the head isn't whole")),
+        HeadStep::Whole(config) => {
+            assert_eq!(rt; config.clients, 32);
+            assert_eq!(rt; config.key.as_slice(), b"\x0a\x0b".as_slice());
+            assert_eq!(rt; config.delta, 1_099_511_627_775);
+            assert_eq!(rt; config.dummy, 1);
+            Ok(())
+        }
+    }
 }
