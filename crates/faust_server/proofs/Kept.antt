@@ -1,5 +1,5 @@
 -- Each step of a row keeps what every state keeps, and a reply made in such a state is in range.
-use Rattle.std.proofs.Common.{◌≡◌, ℕ, ◌-◌, ◌^◌, ◌<◌, ◌≤◌, suc, Bool, true, false, if◌then◌else◌, Option, Some, None, List, [], length, IsNone, IfSome, IsSomeAnd, replicate, slice_index, slice_index_or, slice_set, refl, sym, ap, ◌∙◌, subst, inl, inr, arith}
+use Rattle.std.proofs.Common.{◌≡◌, ℕ, ◌-◌, ◌^◌, ◌<◌, ◌≤◌, Bool, true, false, if◌then◌else◌, Option, Some, None, List, length, IfSome, IsSomeAnd, replicate, slice_index_or, slice_set, refl, sym, ap, ◌∙◌, subst, inl, inr, arith}
 use Rattle.std.proofs.lemmas.Bool.{cases_eq, cases_lt, true≢false}
 use Rattle.std.proofs.lemmas.List.{get_or-set_other, get_or-replicate, get_or_past, length-set, length-replicate}
 use Rattle.std.proofs.lemmas.Grind.{get_or-set_at}
@@ -9,16 +9,15 @@ use Rattle.faust_types.proofs.Order.{is_initial-means}
 use Rattle.faust_types.proofs.Entries.{in_range-initial}
 use Rattle.faust_types.specs.Clients.{IsClientCount, IsClient}
 use Rattle.faust_types.specs.Versions.{initial, is_initial}
-use Rattle.faust_types.specs.Ranges.{AreBytes, IsDigest, IsValue, IsVersionFor, IsKnownBy, IsTupleFor, IsMem, IsReadPartFor, IsReplyFor, IsValueOf, IsSubmitFor, IsCommitFor}
+use Rattle.faust_types.specs.Ranges.{AreBytes, IsDigest, IsValue, IsKnownBy, IsTupleFor, IsMem, IsReadPartFor, IsReplyFor, IsValueOf, IsSubmitFor, IsCommitFor}
 use Rattle.faust_types.specs.declared.operation.Kind.{Kind}
 use Rattle.faust_types.specs.declared.operation.Kind.TheVariants.{Write, Read}
 use Rattle.faust_types.specs.declared.message.Known.{Known}
 use Rattle.faust_types.specs.declared.message.Mem.{Mem}
 use Rattle.faust_types.specs.declared.message.Submit.{Submit}
 use Rattle.faust_types.specs.declared.message.Commit.{Commit}
-use Rattle.faust_server.specs.Ahead.{is_ahead}
 use Rattle.faust_server.specs.declared.turn.Turn.{Turn}
-use Rattle.faust_server.specs.Rows.{State, client_count, unmade, first_turn, first_state, memory_at, version_at, turn_at, value_held, value_after, renewed, remembered, read_part, replied, tuple_of, appended, without, behind, settled, retaken}
+use Rattle.faust_server.specs.Rows.{State, client_count, unmade, first_turn, first_state, memory_at, turn_at, value_held, value_after, renewed, remembered, read_part, replied, tuple_of, appended, without, behind, settled, retaken}
 use Rattle.faust_server.specs.States.{tuples_of, IsStateFor, IsState}
 use Rattle.faust_server.proofs.Tuples.{tuples_of-push_own, tuples_of-push_other, tuples_of-without-own, tuples_of-without-le, tuples_of-behind-le, All-push, All-without, All-behind, few_tuples}
 

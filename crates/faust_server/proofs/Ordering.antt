@@ -1,5 +1,5 @@
 -- The test whether one vector is ahead of another says what it is to say.
-use Rattle.std.proofs.Common.{◌≡◌, ◌≢◌, ◌↔◌, ℕ, ◌<◌, ◌≤◌, zero, suc, Bool, true, false, not, ◌&&◌, nat_le, List, length, get_or, refl, sym, subst, inl, inr, arith}
+use Rattle.std.proofs.Common.{◌≡◌, ◌↔◌, ℕ, ◌<◌, ◌≤◌, zero, suc, Bool, true, not, List, length, get_or, refl, sym, subst, inl, inr, arith}
 use Rattle.std.proofs.lemmas.Bool.{and_parts, and_from, not-true, leb-true, le-leb, both_ways, cases_Bool, cases_eq}
 use Rattle.std.proofs.lemmas.List.{ext_get_or}
 use Rattle.faust_server.specs.Ahead.{IsAhead, covers_up_to, covers, is_ahead}

@@ -1,5 +1,5 @@
 -- How the server compares two committed versions: by their timestamps alone.
-use Rattle.std.specs.Prelude.{◌≡◌, ◌≢◌, ℕ, ◌<◌, ◌≤◌, ◌&&◌, zero, suc, Bool, true, not, List, length, slice_index, nat_le}
+use Rattle.std.specs.Prelude.{◌≢◌, ℕ, ◌<◌, ◌≤◌, ◌&&◌, zero, suc, Bool, true, not, List, length, slice_index, nat_le}
 
 -- One vector of timestamps is ahead of another where it is at least the other in every place and differs from it.
 pub record IsAhead (v w : List ℕ) : Type 0 where

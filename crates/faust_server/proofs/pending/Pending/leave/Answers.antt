@@ -1,4 +1,4 @@
-use Rattle.std.proofs.Common.{◌≡◌, ◌==◌, not, ap, ◌∙◌, rules}
+use Rattle.std.proofs.Common.{◌==◌, not, ap, ◌∙◌, rules}
 use Rattle.std.proofs.lemmas.Fn.{filter_same}
 use Rattle.faust_types.specs.declared.message.Tuple.{Tuple}
 use Rattle.faust_server.specs.Rows.{without}

@@ -1,7 +1,7 @@
 use Rattle.std.proofs.Common.{◌≡◌, false, subst}
 use Rattle.std.proofs.lemmas.Bool.{and_parts, not-true}
 use Rattle.faust_server.specs.declared.turn.Turn.{Turn}
-use Rattle.faust_server.specs.Rows.{State, client_count, turn_at, remembered}
+use Rattle.faust_server.specs.Rows.{client_count, turn_at, remembered}
 use Rattle.faust_server.proofs.Kept.{IsStateFor-remembered, pending-lt, IsReplyFor-replied}
 use Rattle.faust_server.proofs.server.Server.submit.Goals as goal
 

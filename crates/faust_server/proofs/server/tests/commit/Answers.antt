@@ -1,6 +1,5 @@
 use Rattle.std.proofs.Common.{◌≡◌, false, ℕ, sym, ◌∙◌, subst, arith, replicate, rules}
-use Rattle.faust_types.specs.Versions.{is_initial}
-use Rattle.faust_types.specs.Ranges.{IsDigest, IsVersionFor, IsCommitFor}
+use Rattle.faust_types.specs.Ranges.{IsDigest, IsCommitFor}
 use Rattle.faust_types.specs.declared.message.Commit.{Commit}
 use Rattle.faust_server.proofs.Kept.{IsDigest-replicate}
 use Rattle.faust_server.proofs.server.tests.commit.Goals as goal

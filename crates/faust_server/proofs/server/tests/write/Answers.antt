@@ -1,4 +1,4 @@
-use Rattle.std.proofs.Common.{◌≡◌, ◌∷◌, [], ◌≤◌, ℕ, sym, subst, arith, length, replicate, Some}
+use Rattle.std.proofs.Common.{◌≡◌, ℕ, sym, subst, arith, replicate, Some}
 use Rattle.faust_types.specs.Ranges.{IsDigest, IsValue, IsSubmitFor}
 use Rattle.faust_server.proofs.Kept.{AreBytes-replicate, IsDigest-replicate}
 use Rattle.faust_types.specs.declared.message.Submit.{Submit}
