@@ -1,10 +1,7 @@
 -- From the text that is due to what `run` promises.
-use Rattle.std.proofs.Common.{◌≡◌, ℕ, List, Option, None, Some, IfSome, refl, sym, subst, ◌∙◌, inl, inr}
-use Rattle.std.specs.Io.KnownBytes.{Appends}
+use Rattle.std.proofs.Common.{◌≡◌, ℕ, List, Option, None, Some, IfSome, sym, subst, inl, inr}
 use Rattle.faust_types.specs.declared.status.Status.{Status}
 use Rattle.faust_types.specs.declared.status.Status.TheVariants.{Done, Usage, Refused, ReadFault, WriteFault, OutOfMemory, Premise}
-use Rattle.faust_io.specs.Faults.{CountsFault}
-use Rattle.faust_io.specs.Writing.{AppendsPrefix}
 use Rattle.faust_top.specs.Answer.{Ends, IsDue, IsRead, IsWhole, IsCutOff, IsAnswer, EndsWriting}
 
 pub answered_whole : (words : List (List ℕ)) (ends : Ends) (status : Status) → IsWhole words ends status → IsAnswer words ends status

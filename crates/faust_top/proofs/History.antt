@@ -1,9 +1,8 @@
 -- How the counts of a client go on from event to event, and what a step of the machine says of the events.
-use Rattle.std.proofs.Common.{◌≡◌, ◌≢◌, ℕ, ◌+◌, ◌*◌, ◌<◌, ◌≤◌, ◌==◌, Bool, true, false, cond, List, [], ◌∷◌, ◌++◌, Result, Ok, length, refl, sym, ap, subst, ◌∙◌, inl, inr, arith}
-use Rattle.std.specs.List.{count_by, sum_by}
-use Rattle.std.proofs.lemmas.Bool.{cases_Bool, cases_eq, eqb-true, eq-eqb, ne_eqb, cond-true, cond-false}
+use Rattle.std.proofs.Common.{◌≡◌, ℕ, ◌+◌, ◌==◌, Bool, cond, List, [], ◌∷◌, ◌++◌, Ok, sym, ap, subst, ◌∙◌, inl, inr, arith}
+use Rattle.std.specs.List.{count_by}
+use Rattle.std.proofs.lemmas.Bool.{cases_Bool, cond-true, cond-false}
 use Rattle.std.proofs.lemmas.List.Sums.{sum_by-append}
-use Rattle.faust_types.specs.Clients.{IsClient}
 use Rattle.faust_top.specs.declared.script.Event.{Event}
 use Rattle.faust_top.specs.declared.script.Event.TheVariants.{Write, Arrive, Reply}
 use Rattle.faust_top.specs.declared.seen.Seen.{Seen}

@@ -1,9 +1,9 @@
 -- The printed order is a linearization of the writes.
-use Rattle.std.proofs.Common.{◌≡◌, ◌≢◌, ℕ, zero, suc, ◌+◌, ◌*◌, ◌/◌, ◌%◌, ◌<◌, ◌≤◌, ◌==◌, Bool, true, false, cond, List, [], ◌∷◌, ◌++◌, length, get_or, flat_map, refl, sym, ap, subst, ◌∙◌, ◌⊎◌, inl, inr, arith, append_assoc}
+use Rattle.std.proofs.Common.{◌≡◌, ◌≢◌, ℕ, ◌+◌, ◌*◌, ◌/◌, ◌%◌, ◌<◌, ◌≤◌, ◌==◌, Bool, true, cond, List, [], ◌∷◌, ◌++◌, length, get_or, flat_map, refl, sym, ap, subst, ◌∙◌, inl, inr, arith, append_assoc}
 use Rattle.std.specs.Prelude.{Contains, AllPairs}
-use Rattle.std.proofs.lemmas.Bool.{cases_Bool, cases_lt, eqb-true, eqb-false, eq-eqb, cond-true, cond-false}
+use Rattle.std.proofs.lemmas.Bool.{cases_Bool, cases_lt, eqb-true, eq-eqb, cond-true, cond-false}
 use Rattle.std.proofs.lemmas.List.{append-nil}
-use Rattle.std.proofs.lemmas.List.Elements.{Contains-append_left, Contains-append_right, Contains-append_cases, Contains-push, Contains-push_cases, Contains-get_or}
+use Rattle.std.proofs.lemmas.List.Elements.{Contains-append_left, Contains-append_cases, Contains-push, Contains-push_cases, Contains-get_or}
 use Rattle.std.proofs.lemmas.List.Quantifiers.{all_pairs_push}
 use Rattle.faust_types.specs.declared.operation.OpName.{OpName}
 use Rattle.faust_top.specs.declared.script.Event.{Event}
@@ -12,8 +12,8 @@ use Rattle.faust_top.specs.declared.seen.Seen.{Seen}
 use Rattle.faust_top.specs.declared.seen.Seen.TheVariants.{Nothing, Ordered, Done}
 use Rattle.faust_top.specs.Script.{Counts, CanAct, CanFollow, CanBePlayed, counts_of, client_of}
 use Rattle.faust_top.specs.Report.{name, seen, order_item, order_items}
-use Rattle.faust_top.specs.Linear.{placed, order_behind, order_of, printed, Completes, Precedes, StandsBefore, IsLinearization}
-use Rattle.faust_top.proofs.History.{added, counts-sum}
+use Rattle.faust_top.specs.Linear.{placed, order_behind, order_of, printed, Precedes, StandsBefore, IsLinearization}
+use Rattle.faust_top.proofs.History.{counts-sum}
 
 abbrev pub begun_of : ℕ → List Event → ℕ
 begun_of i events = (counts_of i events).begun

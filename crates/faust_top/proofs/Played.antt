@@ -1,19 +1,18 @@
 -- The loop that plays the events: one turn.
-use Rattle.std.proofs.Common.{◌≡◌, ℕ, zero, suc, ◌+◌, ◌^◌, ◌<◌, ◌≤◌, List, [], ◌∷◌, ◌++◌, Result, Ok, Err, length, take, drop, get_or, refl, sym, ap, subst, ◌∙◌, arith, append_assoc}
+use Rattle.std.proofs.Common.{◌≡◌, ℕ, zero, suc, ◌+◌, ◌^◌, ◌<◌, ◌≤◌, List, [], ◌∷◌, ◌++◌, Ok, Err, length, take, drop, get_or, sym, ap, subst, ◌∙◌, arith, append_assoc}
 use Rattle.std.proofs.lemmas.List.{take_more, length-take-le}
 use Rattle.std.proofs.Math.Seq.{drop-cons}
-use Rattle.std.specs.List.{count_by, AllByRecursion}
+use Rattle.std.specs.List.{AllByRecursion}
 use Rattle.std.proofs.lemmas.List.Sums.{count_by-le-length}
 use Rattle.faust_types.specs.Clients.{IsClient}
 use Rattle.faust_top.specs.declared.script.Event.{Event}
 use Rattle.faust_top.specs.declared.seen.Seen.{Seen}
 use Rattle.faust_top.specs.declared.machine.Machine.{Machine}
-use Rattle.faust_top.specs.declared.refusal.Refusal.{Refusal}
 use Rattle.faust_top.specs.declared.refusal.Refusal.TheVariants as refusals
-use Rattle.faust_top.specs.Script.{Counts, CanAct, CanFollow, HasLine, counts_of, client_of, is_write_of}
+use Rattle.faust_top.specs.Script.{Counts, CanAct, CanFollow, HasLine, client_of, is_write_of}
 use Rattle.faust_top.specs.Report.{seen, done_line, done_lines, order_item, order_items}
-use Rattle.faust_top.specs.Machine.{machine_counts, Steps, HasPlayed}
-use Rattle.faust_top.proofs.History.{GoesOn, goes_on}
+use Rattle.faust_top.specs.Machine.{Steps, HasPlayed}
+use Rattle.faust_top.proofs.History.{goes_on}
 
 pub first_client : IsClient 2 1
 first_client = record { from_one = omega arith; to_n = omega arith }

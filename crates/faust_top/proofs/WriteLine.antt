@@ -1,5 +1,5 @@
 -- What is cut out of a text that begins with the line of a write.
-use Rattle.std.proofs.Common.{◌≡◌, ℕ, ◌+◌, false, List, ◌∷◌, ◌++◌, take, codes, refl, sym, ap, subst, ◌∙◌}
+use Rattle.std.proofs.Common.{◌≡◌, ℕ, ◌+◌, List, ◌∷◌, ◌++◌, take, codes, refl, ap, ◌∙◌}
 use Rattle.std.specs.List.{prefix_len}
 use Rattle.faust_top.specs.Script.{IsWriteLine, is_quotable}
 use Rattle.faust_top.proofs.Reading.{passing_whole, behind_same}

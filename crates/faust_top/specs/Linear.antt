@@ -3,7 +3,7 @@
 use Rattle.std.specs.Prelude.{◌≡◌, ◌≢◌, ℕ, ◌+◌, ◌≤◌, List, [], ◌∷◌, ◌++◌, Contains, AllPairs, codes}
 use Rattle.faust_types.specs.declared.operation.OpName.{OpName}
 use Rattle.faust_top.specs.declared.script.Event.{Event}
-use Rattle.faust_top.specs.declared.script.Event.TheVariants.{Write, Arrive, Reply}
+use Rattle.faust_top.specs.declared.script.Event.TheVariants.{Write, Reply}
 use Rattle.faust_top.specs.declared.seen.Seen.{Seen}
 use Rattle.faust_top.specs.declared.seen.Seen.TheVariants.{Nothing, Ordered, Done}
 use Rattle.faust_top.specs.Script.{counts_of}

@@ -1,8 +1,8 @@
 -- The machine that plays the events: what each of its steps does to the counts of a client.
-use Rattle.std.specs.Prelude.{◌≡◌, ◌≢◌, ℕ, ◌==◌, if◌then◌else◌, ◌+◌, ◌-◌, ◌*◌, ◌<◌, ◌≤◌, ◌↔◌, true, false, List, [], ◌∷◌, length, map, Result, Ok, Err, IfSome, IsSome, slice_set}
+use Rattle.std.specs.Prelude.{◌≡◌, ◌≢◌, ℕ, ◌==◌, if◌then◌else◌, ◌+◌, ◌*◌, ◌<◌, ◌≤◌, ◌↔◌, true, false, List, Result, Ok, Err, IfSome, IsSome}
 use Rattle.faust_types.specs.Clients.{IsClient}
 use Rattle.faust_types.specs.Versions.{timestamp_at}
-use Rattle.faust_types.specs.Ranges.{IsSubmitFor, IsCommitFor, IsReplyFor}
+use Rattle.faust_types.specs.Ranges.{IsSubmitFor, IsCommitFor}
 use Rattle.faust_types.specs.declared.message.Submit.{Submit}
 use Rattle.faust_types.specs.declared.message.Commit.{Commit}
 use Rattle.faust_types.specs.declared.message.Reply as messages
@@ -14,7 +14,7 @@ use Rattle.faust_top.specs.declared.script.Event.TheVariants.{Write, Arrive, Rep
 use Rattle.faust_top.specs.declared.refusal.Refusal.{Refusal}
 use Rattle.faust_top.specs.declared.refusal.Refusal.TheVariants as refusals
 use Rattle.faust_top.specs.declared.seen.Seen.{Seen}
-use Rattle.faust_top.specs.declared.seen.Seen.TheVariants.{Nothing, Ordered, Done}
+use Rattle.faust_top.specs.declared.seen.Seen.TheVariants.{Done}
 use Rattle.faust_top.specs.declared.party.Party.{Party}
 use Rattle.faust_top.specs.declared.machine.Machine.{Machine}
 use Rattle.faust_top.specs.Script.{Counts, CanAct, counts_of, client_of}

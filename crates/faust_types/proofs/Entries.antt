@@ -1,10 +1,10 @@
 -- A version stays in range when the entry of a client is set.
-use Rattle.std.proofs.Common.{◌≡◌, ◌≢◌, ◌↔◌, ℕ, true, false, ◌+◌, ◌-◌, ◌^◌, ◌<◌, ◌≤◌, Option, Some, None, List, length, get_or, IfSome, IsNone, refl, sym, ap, subst, ◌∙◌, inl, inr, arith, get_or-set_same, get_or-set_other, length-set}
+use Rattle.std.proofs.Common.{◌≡◌, ◌↔◌, ℕ, false, ◌-◌, ◌^◌, ◌<◌, ◌≤◌, Option, Some, None, List, length, IfSome, IsNone, refl, sym, subst, ◌∙◌, inl, inr, arith, get_or-set_same, get_or-set_other, length-set}
 use Rattle.std.proofs.lemmas.Bool.{cases_eq, true≢false, false_from_ne_true}
 use Rattle.std.proofs.lemmas.Option.{none-some}
 use Rattle.std.proofs.lemmas.List.{get_or-replicate, length-replicate}
 use Rattle.faust_types.specs.Clients.{IsClient, IsClientCount}
-use Rattle.faust_types.specs.Versions.{Vector, IsVersion, clients_of, timestamp_at, digest_at, initial, is_initial, with_entry}
+use Rattle.faust_types.specs.Versions.{Vector, clients_of, timestamp_at, digest_at, initial, is_initial, with_entry}
 use Rattle.faust_types.specs.Ranges.{IsDigest, IsVersionFor}
 use Rattle.faust_types.proofs.Order.{zeros-true, zero-at-initial}
 

@@ -1,5 +1,5 @@
 -- Which values and messages are in range for n clients: those that have a spelling.
-use Rattle.std.specs.Prelude.{◌≡◌, ◌≢◌, ℕ, ◌^◌, ◌<◌, ◌≤◌, Bool, true, false, List, length, Option, None, IsNone, IfSome, IsSomeAnd, replicate, slice_index}
+use Rattle.std.specs.Prelude.{◌≡◌, ◌≢◌, ℕ, ◌^◌, ◌<◌, ◌≤◌, true, false, List, length, Option, IsNone, IfSome, IsSomeAnd, replicate, slice_index}
 use Rattle.std.specs.List.{AllByRecursion}
 use Rattle.faust_types.specs.Clients.{IsClient}
 use Rattle.faust_types.specs.Versions.{Vector, IsVersion, clients_of, digest_at, is_initial}

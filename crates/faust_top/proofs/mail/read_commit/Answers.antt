@@ -1,4 +1,4 @@
-use Rattle.std.proofs.Common.{◌≡◌, ℕ, List, Result, Err, sym, ap, subst, ◌∙◌}
+use Rattle.std.proofs.Common.{◌≡◌, ℕ, List, Err, sym, ap, subst, ◌∙◌}
 use Rattle.faust_types.specs.Ranges.{IsMessageFor}
 use Rattle.faust_types.specs.Versions.{timestamp_at}
 use Rattle.faust_types.specs.declared.message.Commit.{Commit}

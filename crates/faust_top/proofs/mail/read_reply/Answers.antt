@@ -1,8 +1,4 @@
-use Rattle.std.proofs.Common.{◌≡◌, ℕ, List, Result, Err, sym, ap, subst, ◌∙◌}
-use Rattle.faust_types.specs.Ranges.{IsMessageFor}
-use Rattle.faust_types.specs.Versions.{timestamp_at}
-use Rattle.faust_types.specs.declared.message.Reply.{Reply}
-use Rattle.faust_types.specs.declared.message.Message.{Message}
+use Rattle.std.proofs.Common.{ℕ, List, Err, sym, subst}
 use Rattle.faust_types.specs.declared.message.Message.TheVariants as messages
 use Rattle.faust_wire.specs.declared.error.WireError.{WireError}
 use Rattle.faust_wire.specs.Grammar.{IsSpellingOf}

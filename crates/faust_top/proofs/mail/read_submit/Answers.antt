@@ -1,6 +1,5 @@
-use Rattle.std.proofs.Common.{◌≡◌, ℕ, List, Result, Err, sym, ap, subst, ◌∙◌}
+use Rattle.std.proofs.Common.{◌≡◌, ℕ, List, Err, sym, ap, subst, ◌∙◌}
 use Rattle.faust_types.specs.Ranges.{IsMessageFor}
-use Rattle.faust_types.specs.Versions.{timestamp_at}
 use Rattle.faust_types.specs.declared.message.Submit.{Submit}
 use Rattle.faust_types.specs.declared.message.Message.{Message}
 use Rattle.faust_types.specs.declared.message.Message.TheVariants as messages

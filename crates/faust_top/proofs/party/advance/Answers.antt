@@ -1,6 +1,5 @@
-use Rattle.std.proofs.Common.{◌≡◌, ℕ, List, Bool, false, sym, subst, rules}
-use Rattle.faust_types.specs.Ranges.{IsDigest, IsVersionFor}
-use Rattle.faust_types.specs.Versions.{Vector, is_initial}
+use Rattle.std.proofs.Common.{rules}
+use Rattle.faust_types.specs.Ranges.{IsDigest}
 use Rattle.faust_types.proofs.Entries.{in_range-with_entry, not_initial-with_entry}
 use Rattle.faust_top.proofs.party.advance.Goals as goal
 

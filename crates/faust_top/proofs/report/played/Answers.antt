@@ -1,4 +1,4 @@
-use Rattle.std.proofs.Common.{◌≡◌, ℕ, ◌+◌, ◌<◌, ◌≤◌, List, ◌∷◌, Result, Err, length, take, drop, get_or, sym, subst, ◌∙◌, arith}
+use Rattle.std.proofs.Common.{◌+◌, List, Err, take, drop, sym, subst, ◌∙◌, arith}
 use Rattle.std.specs.Prelude.{string_bytes}
 use Rattle.std.proofs.lemmas.List.{length-take-le}
 use Rattle.std.proofs.lemmas.Result.{err_from_is_err_and}
@@ -6,7 +6,7 @@ use Rattle.faust_top.specs.declared.script.Event.{Event}
 use Rattle.faust_top.specs.declared.refusal.Refusal.{Refusal}
 use Rattle.faust_top.specs.Script.{CanFollow, HasLine}
 use Rattle.faust_top.specs.Machine.{Steps}
-use Rattle.faust_top.proofs.Played.{Kept, line_at, left, room, stops, turn}
+use Rattle.faust_top.proofs.Played.{line_at, left, room, stops, turn}
 use Rattle.faust_top.proofs.report.played.Goals as goal
 
 pub step-requires-clause-room : goal.step-requires-clause-room

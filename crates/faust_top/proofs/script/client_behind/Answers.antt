@@ -1,5 +1,4 @@
-use Rattle.std.proofs.Common.{◌≡◌, ◌+◌, ℕ, List, ◌∷◌, ◌++◌, ◌∙◌, sym}
-use Rattle.faust_types.specs.Clients.{IsClient}
+use Rattle.std.proofs.Common.{◌≡◌, ◌+◌, ◌∷◌}
 use Rattle.faust_top.proofs.Reading.{behind_same}
 use Rattle.faust_top.proofs.script.client_behind.Goals as goal
 

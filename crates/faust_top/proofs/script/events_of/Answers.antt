@@ -1,8 +1,6 @@
-use Rattle.std.proofs.Common.{◌≡◌, ℕ, List, ◌++◌, length, ◌∙◌, sym, nat_eq}
+use Rattle.std.proofs.Common.{◌∙◌, sym}
 use Rattle.std.proofs.lemmas.Bool.{iff_false}
 use Rattle.std.proofs.lemmas.Result.{err_from_is_err_and}
-use Rattle.faust_top.specs.declared.script.Event.{Event}
-use Rattle.faust_top.specs.Script.{IsLines, end_line}
 use Rattle.faust_top.proofs.Lines.{stops, too_many}
 use Rattle.faust_top.proofs.script.events_of.Goals as goal
 

@@ -1,4 +1,4 @@
-use Rattle.std.proofs.Common.{◌≤◌, arith}
+use Rattle.std.proofs.Common.{arith}
 use Rattle.std.proofs.lemmas.List.Sums.{prefix_len-le-length}
 use Rattle.faust_top.specs.Script.{is_quotable}
 use Rattle.faust_top.proofs.script.quotable_front.Goals as goal

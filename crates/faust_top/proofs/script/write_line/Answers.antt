@@ -1,6 +1,6 @@
-use Rattle.std.proofs.Common.{◌≡◌, ℕ, ◌+◌, ◌≤◌, Bool, true, List, ◌∷◌, ◌++◌, length, take, refl, sym, ap, subst, ◌∙◌, arith}
-use Rattle.std.specs.List.{list_all, prefix_len}
-use Rattle.faust_top.specs.Script.{IsWriteLine, is_quotable}
+use Rattle.std.proofs.Common.{◌≡◌, ℕ, true, List, length, refl, sym, ap, subst, arith}
+use Rattle.std.specs.List.{list_all}
+use Rattle.faust_top.specs.Script.{is_quotable}
 use Rattle.faust_top.proofs.Reading.{front_passes}
 use Rattle.faust_top.proofs.WriteLine.{value_cut}
 use Rattle.faust_top.proofs.script.write_line.Goals as goal

@@ -1,4 +1,4 @@
-use Rattle.std.proofs.Common.{◌≡◌, ℕ, List, ◌∷◌, [], map, codes, ap, ◌∙◌, sym, arith}
+use Rattle.std.proofs.Common.{ℕ, List, ◌∷◌, [], map, codes, ap, ◌∙◌, sym, arith}
 use Rattle.std.specs.Prelude.{string_bytes}
 use Rattle.faust_top.proofs.Words.{one_word, word_told}
 use Rattle.faust_top.proofs.top.are_script_words.Goals as goal

@@ -1,4 +1,4 @@
-use Rattle.std.proofs.Common.{◌≡◌, ℕ, ◌<◌, ◌≤◌, List, Option, None, Some, IfSome, Bool, true, false, length, map, refl, sym, ap, subst, ◌∙◌, arith, Result, Ok, Err}
+use Rattle.std.proofs.Common.{◌≡◌, ℕ, ◌<◌, List, length, refl, sym, ap, subst, ◌∙◌, arith, Err}
 use Rattle.std.specs.Prelude.{string_bytes}
 use Rattle.std.proofs.lemmas.Bool.{both_ways}
 use Rattle.faust_types.specs.declared.status.Status.TheVariants.{Done, Usage, Refused}
@@ -6,8 +6,7 @@ use Rattle.faust_io.specs.declared.failed.ReadError.{ReadError}
 use Rattle.faust_io.specs.Faults.{CountsError}
 use Rattle.faust_top.specs.declared.script.Event.{Event}
 use Rattle.faust_top.specs.Script.{HasForm}
-use Rattle.faust_top.specs.Report.{report_text}
-use Rattle.faust_top.specs.Answer.{AreScriptWords, Ends, EndsWriting, usage_text, refusal_text}
+use Rattle.faust_top.specs.Answer.{EndsWriting, usage_text, refusal_text}
 use Rattle.faust_top.proofs.Answering.{answered, some_weaker}
 use Rattle.faust_top.proofs.top.run.Goals as goal
 
