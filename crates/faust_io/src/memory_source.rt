@@ -28,6 +28,7 @@ impl Model for SureSource {
 }
 
 impl SureSource {
+    /// A source of these bytes.
     pub fn new(alloc: Global, bytes: &[u8]) -> Result<SureSource, OutOfMemory>
         ensures { IfOk result (λ source. source ≡ bytes.now) }
     {

@@ -1,4 +1,5 @@
-ghost use Rattle.std.specs.Prelude.{◌≡◌, IfOk};
+ghost use Rattle.std.specs.Prelude.{◌≡◌, ◌++◌, length, take, IfOk, OnOk, OnErr};
+ghost use Rattle.faust_types.specs.Spelling.{announced, peer_byte, peer_content, peer_front};
 
 use crate::operation::Kind;
 use crate::out_of_memory::OutOfMemory;
@@ -229,4 +230,60 @@ impl PeerMessage {
             tag: self.tag,
         })
     }
+
+    /// Puts the message's bytes up to its tag behind the text, from the byte of the wire's version on.
+    pub fn put_front(&self, wire: u8, out: &mut Bytes) -> Result<(), OutOfMemory>
+        ensures ok { OnOk result (out.new ≡ out.old ++ peer_front wire self.now) }
+        ensures err { OnErr result (out.new ≡ out.old) }
+    {
+        let before = out.len();
+        let written = self.put_parts(wire, out);
+        if written.is_err() {
+            out.truncate(before);
+        }
+        written
+    }
+
+    #[tactic(auto, unfolding(crate::specs::Spelling::peer_front))]
+    fn put_parts(&self, wire: u8, out: &mut Bytes) -> Result<(), OutOfMemory>
+        ensures ok { OnOk result (out.new ≡ out.old ++ peer_front wire self.now) }
+        ensures err { OnErr result (take (length out.old) out.new ≡ out.old) }
+    {
+        out.append(&[wire, byte_of_peer(&self.peer), self.from, self.to])?;
+        put_content(&self.peer, out)
+    }
+}
+
+fn byte_of_peer(peer: &Peer) -> u8
+    ensures { result ≡ peer_byte peer.now }
+{
+    match peer {
+        Peer::Probe => 4,
+        Peer::Version(_) => 5,
+        Peer::Failure(_) => 6,
+    }
+}
+
+fn put_content(peer: &Peer, out: &mut Bytes) -> Result<(), OutOfMemory>
+    ensures ok { OnOk result (out.new ≡ out.old ++ peer_content peer.now) }
+    ensures err { OnErr result (take (length out.old) out.new ≡ out.old) }
+{
+    match peer {
+        Peer::Probe => Ok(()),
+        Peer::Version(known) => put_announced(known, out),
+        Peer::Failure(check) => out.push(*check),
+    }
+}
+
+#[tactic(auto, unfolding(crate::specs::Spelling::announced))]
+fn put_announced(known: &Known, out: &mut Bytes) -> Result<(), OutOfMemory>
+    ensures ok { OnOk result (out.new ≡ out.old ++ announced known.now) }
+    ensures err { OnErr result (take (length out.old) out.new ≡ out.old) }
+{
+    if known.version.is_initial() {
+        return out.push(0);
+    }
+    out.push(known.maker)?;
+    known.version.put(out)?;
+    out.append(&known.tag)
 }

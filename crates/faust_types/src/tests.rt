@@ -68,6 +68,28 @@ fn a_version_has_its_bytes(rt: HostRuntime) -> Result<(), Fail> {
 }
 
 #[test]
+fn a_peer_message_has_its_front(rt: HostRuntime) -> Result<(), Fail> {
+    let probe = PeerMessage {
+        from: 1,
+        to: 2,
+        peer: Peer::Probe,
+        tag: [9; 32],
+    };
+    let mut out = Bytes::new(rt.alloc());
+    probe.put_front(1, &mut out)?;
+    assert_eq!(rt; out.as_slice(), [1, 4, 1, 2].as_slice());
+    let failure = PeerMessage {
+        from: 2,
+        to: 1,
+        peer: Peer::Failure(12),
+        tag: [9; 32],
+    };
+    failure.put_front(1, &mut out)?;
+    assert_eq!(rt; out.as_slice(), [1, 4, 1, 2, 1, 6, 2, 1, 12].as_slice());
+    Ok(())
+}
+
+#[test]
 fn lists_grow_and_are_cut(rt: HostRuntime) -> Result<(), Fail> {
     let mut list = Bytes::new(rt.alloc());
     assert!(rt; list.is_empty());

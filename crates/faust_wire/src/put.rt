@@ -1,11 +1,9 @@
 ghost use Rattle.std.specs.Prelude.{◌≡◌, ◌≤◌, ◌∷◌, ◌++◌, length, flat_map, OnOk, IfSome};
-ghost use Rattle.faust_types.specs.Spelling.{be64, optional, kind_byte, announced, peer_byte, peer_content};
+ghost use Rattle.faust_types.specs.Spelling.{be64, optional, kind_byte};
 ghost use Rattle.faust_wire.specs.Grammar.{signed_bytes, value_bytes, optional_value_bytes, memory_bytes, tuple_bytes, read_part_bytes, written_bytes};
 
-use crate::numbers::{ABSENT, FAILURE, PRESENT, PROBE, READ, VERSION, WRITE};
-use faust_types::{
-    Bytes, Kind, Known, MAX_VALUE_LEN, Mem, OutOfMemory, Peer, ReadPart, Tag, Tuple,
-};
+use crate::numbers::{ABSENT, PRESENT, READ, WRITE};
+use faust_types::{Bytes, Kind, Known, MAX_VALUE_LEN, Mem, OutOfMemory, ReadPart, Tag, Tuple};
 
 pub(crate) fn byte_of_kind(kind: Kind) -> u8
     ensures { result ≡ kind_byte kind }
@@ -13,16 +11,6 @@ pub(crate) fn byte_of_kind(kind: Kind) -> u8
     match kind {
         Kind::Write => WRITE,
         Kind::Read => READ,
-    }
-}
-
-pub(crate) fn byte_of_peer(peer: &Peer) -> u8
-    ensures { result ≡ peer_byte peer.now }
-{
-    match peer {
-        Peer::Probe => PROBE,
-        Peer::Version(_) => VERSION,
-        Peer::Failure(_) => FAILURE,
     }
 }
 
@@ -55,28 +43,6 @@ pub(crate) fn put_signed(known: &Known, out: &mut Bytes) -> Result<(), OutOfMemo
     out.push(PRESENT)?;
     known.version.put(out)?;
     out.append(&known.tag)
-}
-
-#[tactic(auto, unfolding(faust_types::specs::Spelling::announced))]
-fn put_announced(known: &Known, out: &mut Bytes) -> Result<(), OutOfMemory>
-    ensures { OnOk result (out.new ≡ out.old ++ announced known.now) }
-{
-    if known.version.is_initial() {
-        return out.push(0);
-    }
-    out.push(known.maker)?;
-    known.version.put(out)?;
-    out.append(&known.tag)
-}
-
-pub(crate) fn put_content(peer: &Peer, out: &mut Bytes) -> Result<(), OutOfMemory>
-    ensures { OnOk result (out.new ≡ out.old ++ peer_content peer.now) }
-{
-    match peer {
-        Peer::Probe => Ok(()),
-        Peer::Version(known) => put_announced(known, out),
-        Peer::Failure(check) => out.push(*check),
-    }
 }
 
 #[tactic(auto, unfolding(crate::specs::Grammar::value_bytes))]

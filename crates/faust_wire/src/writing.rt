@@ -4,8 +4,7 @@ ghost use Rattle.faust_wire.specs.Grammar.{submit_bytes, reply_bytes, commit_byt
 
 use crate::numbers::{COMMIT, HELLO, REPLY, SUBMIT, WIRE_VERSION};
 use crate::put::{
-    byte_of_kind, byte_of_peer, put_content, put_number, put_pending, put_proofs, put_read_part,
-    put_signed, put_written,
+    byte_of_kind, put_number, put_pending, put_proofs, put_read_part, put_signed, put_written,
 };
 use crate::room::{room_for_commit, room_for_peer, room_for_reply, room_for_submit};
 use faust_types::{Bytes, Message, OutOfMemory, PeerMessage, Reply, Submit, Tag, Version};
@@ -84,20 +83,14 @@ pub fn encode_commit(
     Ok(out)
 }
 
-#[tactic(auto, unfolding(crate::specs::Grammar::peer_bytes, faust_types::specs::Spelling::peer_front))]
+#[tactic(auto, unfolding(crate::specs::Grammar::peer_bytes))]
 fn encode_peer(alloc: Global, n: u8, message: &PeerMessage) -> Result<Bytes, OutOfMemory>
     requires { IsPeerMessageFor n message.now }
     ensures { IfOk result (λ bytes. bytes ≡ peer_bytes 1 message.now) }
 {
     let mut out = Bytes::new(alloc);
     out.reserve(room_for_peer(n, message))?;
-    out.append(&[
-        WIRE_VERSION,
-        byte_of_peer(&message.peer),
-        message.from,
-        message.to,
-    ])?;
-    put_content(&message.peer, &mut out)?;
+    message.put_front(WIRE_VERSION, &mut out)?;
     out.append(&message.tag)?;
     Ok(out)
 }
