@@ -80,7 +80,7 @@ expected_of turn = if turn.uncommitted then turn.last else turn.last + 1
 abbrev pub out_of_turn : Turn → ℕ → OutOfTurn
 out_of_turn turn got = record { expected = expected_of turn; got = got }
 
--- SUBMIT, rule 2: a write puts its value into the memory of its client, a read keeps the value that is there,
+-- SUBMIT, step 1: a write puts its value into the memory of its client, a read keeps the value that is there,
 -- and both put their number and their data tag beside it.
 abbrev pub value_held : Option Mem → Option (List ℕ)
 value_held None = None
@@ -96,7 +96,7 @@ renewed held m = record { t = m.t; value = value_after m.kind m.value held; tag 
 abbrev pub remembered : State → ℕ → Submit → State
 remembered st i m = record st { memory = slice_set st.memory (i - 1) (Some (renewed (memory_at st i) m)) }
 
--- SUBMIT, rule 3: what the reply holds.
+-- SUBMIT, step 2: what the reply holds.
 abbrev pub read_part : State → Kind → ℕ → Option ReadPart
 read_part st Write j = None
 read_part st Read j = Some (record { register = j; version = version_at st j; mem = memory_at st j })
@@ -110,7 +110,7 @@ replied st m = record {
   read = read_part st m.kind m.register;
 }
 
--- SUBMIT, rule 4: the operation is pending, and its client uncommitted.
+-- SUBMIT, step 3: the operation is pending, and its client uncommitted.
 abbrev pub tuple_of : ℕ → Submit → Tuple
 tuple_of i m = record { client = i; kind = m.kind; register = m.register; tag = m.submit_tag }
 
@@ -120,7 +120,7 @@ appended st i m = record st {
   turns = slice_set st.turns (i - 1) (record { last = m.t; uncommitted = true });
 }
 
--- COMMIT, rule 2: a version that is ahead of SVER[c] makes its client c, and what it stands for is pending no
+-- COMMIT, step 1: a version that is ahead of SVER[c] makes its client c, and what it stands for is pending no
 -- more. That is the list from behind the tuple of client i on; all of it where there is none.
 abbrev pub behind_place : Option ℕ → List Tuple → List Tuple
 behind_place None pending = pending
@@ -136,7 +136,7 @@ without i pending = filter (λ (tuple : Tuple). not (tuple.client == i)) pending
 abbrev pub advanced : State → ℕ → Vector → State
 advanced st i version = if is_ahead version.timestamps (greatest st).version.timestamps then record st { c = i; pending = behind i st.pending } else st
 
--- COMMIT, rule 3: the version and the proof are the client's, nothing of it is pending, and it is committed.
+-- COMMIT, step 2: the version and the proof are the client's, nothing of it is pending, and it is committed.
 abbrev pub settled : State → ℕ → Commit → State
 settled st i m = record st {
   versions = slice_set st.versions (i - 1) (record { maker = i; version = m.version; tag = m.commit_tag });
@@ -150,7 +150,7 @@ pub record Served : Type 0 where
   pub state : State
   pub reply : Reply
 
--- SUBMIT from client i in turn: rule 2, then rules 3 and 4.
+-- SUBMIT from client i in turn: step 1, then steps 2 and 3.
 abbrev pub served : State → ℕ → Submit → Served
 served st i m = record { state = appended (remembered st i m) i m; reply = replied (remembered st i m) m }
 

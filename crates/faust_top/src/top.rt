@@ -16,9 +16,9 @@ const USAGE: &[u8] = b"usage: faust script\n";
 
 const REFUSAL: &[u8] = b"refused: line 0: form\n";
 
-/// Reads a script from the source, plays it and writes its report to the sink. `Usage` comes exactly for other
-/// words than `script`, `Refused` exactly where no read failed and the input hasn't the form, `ReadFault` and
-/// `WriteFault` only where the count of faults rose.
+/// Reads a script from the source, plays it and writes its report to the sink. `Usage` comes only for other
+/// words than `script`, `Refused` only where the input hasn't the form, `ReadFault` and `WriteFault` only where
+/// the count of faults rose. So an input of the form gets its report, unless a fault or want of memory comes.
 pub fn run<S: Source, K: Sink>(
     alloc: Global,
     words: &[String],
