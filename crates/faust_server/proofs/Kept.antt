@@ -1,15 +1,14 @@
 -- Each step of a row keeps what every state keeps, and a reply made in such a state is in range.
 use Rattle.std.proofs.Common.{◌≡◌, ℕ, ◌-◌, ◌^◌, ◌<◌, ◌≤◌, Bool, true, false, if◌then◌else◌, Option, Some, None, List, length, IfSome, IsSomeAnd, replicate, slice_index_or, slice_set, refl, sym, ap, ◌∙◌, subst, inl, inr, arith}
-use Rattle.std.proofs.lemmas.Bool.{cases_eq, cases_lt, true≢false}
-use Rattle.std.proofs.lemmas.List.{get_or-set_other, get_or-replicate, get_or_past, length-set, length-replicate}
+use Rattle.std.proofs.lemmas.Bool.{cases_eq, true≢false}
+use Rattle.std.proofs.lemmas.List.{get_or-set_other, get_or-replicate, length-set, length-replicate}
 use Rattle.std.proofs.lemmas.Grind.{get_or-set_at}
 use Rattle.std.proofs.lemmas.List.Elements.{All-from_recursion, recursion_from_All, All-replicate, All-set}
 use Rattle.std.specs.List.{AllByRecursion}
-use Rattle.faust_types.proofs.Order.{is_initial-means}
-use Rattle.faust_types.proofs.Entries.{in_range-initial}
+use Rattle.faust_types.proofs.Messages.{IsKnownBy-unmade, value_of-in_range}
 use Rattle.faust_types.specs.Clients.{IsClientCount, IsClient}
-use Rattle.faust_types.specs.Versions.{initial, is_initial}
-use Rattle.faust_types.specs.Ranges.{AreBytes, IsDigest, IsValue, IsKnownBy, IsTupleFor, IsMem, IsReadPartFor, IsReplyFor, IsValueOf, IsSubmitFor, IsCommitFor}
+use Rattle.faust_types.specs.Messages.{unmade, tuples_by}
+use Rattle.faust_types.specs.Ranges.{IsDigest, IsValue, IsKnownBy, IsTupleFor, IsMem, IsReadPartFor, IsReplyFor, IsValueOf, IsSubmitFor, IsCommitFor}
 use Rattle.faust_types.specs.declared.operation.Kind.{Kind}
 use Rattle.faust_types.specs.declared.operation.Kind.TheVariants.{Write, Read}
 use Rattle.faust_types.specs.declared.message.Known.{Known}
@@ -17,9 +16,9 @@ use Rattle.faust_types.specs.declared.message.Mem.{Mem}
 use Rattle.faust_types.specs.declared.message.Submit.{Submit}
 use Rattle.faust_types.specs.declared.message.Commit.{Commit}
 use Rattle.faust_server.specs.declared.turn.Turn.{Turn}
-use Rattle.faust_server.specs.Rows.{State, client_count, unmade, first_turn, first_state, memory_at, turn_at, value_held, value_after, renewed, remembered, read_part, replied, tuple_of, appended, without, behind, settled, retaken}
-use Rattle.faust_server.specs.States.{tuples_of, IsStateFor, IsState}
-use Rattle.faust_server.proofs.Tuples.{tuples_of-push_own, tuples_of-push_other, tuples_of-without-own, tuples_of-without-le, tuples_of-behind-le, All-push, All-without, All-behind, few_tuples}
+use Rattle.faust_server.specs.Rows.{State, client_count, first_turn, first_state, memory_at, turn_at, value_after, renewed, remembered, read_part, replied, tuple_of, appended, without, behind, settled, retaken}
+use Rattle.faust_server.specs.States.{IsStateFor, IsState}
+use Rattle.faust_server.proofs.Tuples.{tuples_by-push_own, tuples_by-push_other, tuples_by-without-own, tuples_by-without-le, tuples_by-behind-le, All-push, All-without, All-behind, few_tuples}
 
 -- one item of a list is replaced: what holds of it and of the others holds of each
 pub each-set : {A : Type 0} (P : ℕ → A → Type 0) (n i : ℕ) (xs : List A) (x d : A) → IsClient n i → length xs ≡ n → P i x → ((k : ℕ) → IsClient n k → (k ≡ i → ⊥) → P k (slice_index_or xs (k - 1) d)) → (k : ℕ) → IsClient n k → P k (slice_index_or (slice_set xs (i - 1) x) (k - 1) d)
@@ -38,17 +37,13 @@ pub All-slice_set : {A : Type 0} (P : A → Type 0) (xs : List A) (k : ℕ) (x :
 All-slice_set P xs k x all p = recursion_from_All P (slice_set xs k x) (All-set P xs k x p (All-from_recursion P xs all))
 
 -- SUBMIT keeps it
-pub value_held-in_range : (held : Option Mem) → IfSome held IsMem → IfSome (value_held held) IsValue
-value_held-in_range None h = tt
-value_held-in_range (Some mem) h = h.value_in_range
-
 pub written-in_range : (value : Option (List ℕ)) → IsSomeAnd value IsValue → IfSome value IsValue
 written-in_range None h = tt
 written-in_range (Some value) h = h
 
 pub value_after-in_range : (kind : Kind) (value : Option (List ℕ)) (held : Option Mem) → IsValueOf kind value → IfSome held IsMem → IfSome (value_after kind value held) IsValue
 value_after-in_range Write value held v h = written-in_range value v
-value_after-in_range Read value held v h = value_held-in_range held h
+value_after-in_range Read value held v h = value_of-in_range held h
 
 pub IsStateFor-remembered : (n : ℕ) (st : State) (i : ℕ) (m : Submit) → IsStateFor n st → IsClient n i → IsSubmitFor n m → IsStateFor n (remembered st i m)
 IsStateFor-remembered n st i m h client message =
@@ -73,9 +68,9 @@ IsStateFor-remembered n st i m h client message =
     }
 
 -- a client that is committed has nothing pending
-pub none_pending : (n : ℕ) (st : State) (i : ℕ) → IsStateFor n st → IsClient n i → (turn_at st i).uncommitted ≡ false → tuples_of i st.pending ≡ 0
+pub none_pending : (n : ℕ) (st : State) (i : ℕ) → IsStateFor n st → IsClient n i → (turn_at st i).uncommitted ≡ false → tuples_by i st.pending ≡ 0
 none_pending n st i h client committed =
-    let most : tuples_of i st.pending ≤ (if false then 1 else 0) = subst (λ (b : Bool). tuples_of i st.pending ≤ (if b then 1 else 0)) committed (h.one_pending i client) in
+    let most : tuples_by i st.pending ≤ (if false then 1 else 0) = subst (λ (b : Bool). tuples_by i st.pending ≤ (if b then 1 else 0)) committed (h.one_pending i client) in
     omega (arith, most)
 
 pub IsStateFor-appended : (n : ℕ) (st : State) (i : ℕ) (m : Submit) → IsStateFor n st → IsClient n i → IsSubmitFor n m → (turn_at st i).uncommitted ≡ false → IsStateFor n (appended st i m)
@@ -91,9 +86,9 @@ IsStateFor-appended n st i m h client message committed =
       memory_in_range = h.memory_in_range;
       versions_known = h.versions_known;
       pending_in_range = All-push (IsTupleFor n) st.pending (tuple_of i m) h.pending_in_range (record { client_in_range = client; register_in_range = message.register_in_range; tag_sized = message.submit_tag_sized });
-      one_pending = each-set (λ (k : ℕ) (turn : Turn). tuples_of k (appended st i m).pending ≤ (if turn.uncommitted then 1 else 0)) n i st.turns _ first_turn client h.turns_paired
-          (omega (arith, tuples_of-push_own i st.pending (tuple_of i m) refl, none))
-          (λ k within ne. let same = tuples_of-push_other k st.pending (tuple_of i m) (λ e. ne (sym e)) in omega (arith, same, h.one_pending k within));
+      one_pending = each-set (λ (k : ℕ) (turn : Turn). tuples_by k (appended st i m).pending ≤ (if turn.uncommitted then 1 else 0)) n i st.turns _ first_turn client h.turns_paired
+          (omega (arith, tuples_by-push_own i st.pending (tuple_of i m) refl, none))
+          (λ k within ne. let same = tuples_by-push_other k st.pending (tuple_of i m) (λ e. ne (sym e)) in omega (arith, same, h.one_pending k within));
       proofs_sized = h.proofs_sized;
       turns_below = each-set (λ (k : ℕ) (turn : Turn). turn.last < 2 ^ 40) n i st.turns _ first_turn client h.turns_paired message.number.below (λ k within ne. h.turns_below k within);
     }
@@ -110,7 +105,7 @@ IsStateFor-led n st i h client = record {
   memory_in_range = h.memory_in_range;
   versions_known = h.versions_known;
   pending_in_range = All-behind (IsTupleFor n) i st.pending h.pending_in_range;
-  one_pending = λ k within. omega (arith, tuples_of-behind-le k i st.pending, h.one_pending k within);
+  one_pending = λ k within. omega (arith, tuples_by-behind-le k i st.pending, h.one_pending k within);
   proofs_sized = h.proofs_sized;
   turns_below = h.turns_below;
 }
@@ -133,9 +128,9 @@ IsStateFor-settled n st i m h client message =
       memory_in_range = h.memory_in_range;
       versions_known = each-set (λ (k : ℕ) (v : Known). IsKnownBy n k v) n i st.versions _ (unmade 0) client h.versions_paired known (λ k within ne. h.versions_known k within);
       pending_in_range = All-without (IsTupleFor n) i st.pending h.pending_in_range;
-      one_pending = each-set (λ (k : ℕ) (turn : Turn). tuples_of k (settled st i m).pending ≤ (if turn.uncommitted then 1 else 0)) n i st.turns _ first_turn client h.turns_paired
-          (omega (arith, tuples_of-without-own i st.pending))
-          (λ k within ne. omega (arith, tuples_of-without-le k i st.pending, h.one_pending k within));
+      one_pending = each-set (λ (k : ℕ) (turn : Turn). tuples_by k (settled st i m).pending ≤ (if turn.uncommitted then 1 else 0)) n i st.turns _ first_turn client h.turns_paired
+          (omega (arith, tuples_by-without-own i st.pending))
+          (λ k within ne. omega (arith, tuples_by-without-le k i st.pending, h.one_pending k within));
       proofs_sized = All-slice_set (λ (proof : Option (List ℕ)). IfSome proof IsDigest) st.proofs (i - 1) (Some m.proof_tag) h.proofs_sized message.proof_tag_sized;
       turns_below = each-set (λ (k : ℕ) (turn : Turn). turn.last < 2 ^ 40) n i st.turns _ first_turn client h.turns_paired (h.turns_below i client) (λ k within ne. h.turns_below k within);
     }
@@ -159,39 +154,19 @@ IsStateFor-retaken n st i last uncommitted h client below = record {
     | true ↦ h.pending_in_range
     | false ↦ All-without (IsTupleFor n) i st.pending h.pending_in_range
   ];
-  one_pending = elim uncommitted as (λ b. (k : ℕ) → IsClient n k → tuples_of k (retaken st i last b).pending ≤ (if (turn_at (retaken st i last b) k).uncommitted then 1 else 0)) [
-    | true ↦ each-set (λ (k : ℕ) (turn : Turn). tuples_of k st.pending ≤ (if turn.uncommitted then 1 else 0)) n i st.turns _ first_turn client h.turns_paired
+  one_pending = elim uncommitted as (λ b. (k : ℕ) → IsClient n k → tuples_by k (retaken st i last b).pending ≤ (if (turn_at (retaken st i last b) k).uncommitted then 1 else 0)) [
+    | true ↦ each-set (λ (k : ℕ) (turn : Turn). tuples_by k st.pending ≤ (if turn.uncommitted then 1 else 0)) n i st.turns _ first_turn client h.turns_paired
         (at_most_one (turn_at st i).uncommitted _ (h.one_pending i client))
         (λ k within ne. h.one_pending k within)
-    | false ↦ each-set (λ (k : ℕ) (turn : Turn). tuples_of k (without i st.pending) ≤ (if turn.uncommitted then 1 else 0)) n i st.turns _ first_turn client h.turns_paired
-        (omega (arith, tuples_of-without-own i st.pending))
-        (λ k within ne. omega (arith, tuples_of-without-le k i st.pending, h.one_pending k within))
+    | false ↦ each-set (λ (k : ℕ) (turn : Turn). tuples_by k (without i st.pending) ≤ (if turn.uncommitted then 1 else 0)) n i st.turns _ first_turn client h.turns_paired
+        (omega (arith, tuples_by-without-own i st.pending))
+        (λ k within ne. omega (arith, tuples_by-without-le k i st.pending, h.one_pending k within))
   ];
   proofs_sized = h.proofs_sized;
   turns_below = each-set (λ (k : ℕ) (turn : Turn). turn.last < 2 ^ 40) n i st.turns _ first_turn client h.turns_paired below (λ k within ne. h.turns_below k within);
 }
 
 -- the first state has it
-pub AreBytes-replicate : (k b : ℕ) → b < 256 → AreBytes (replicate k b)
-AreBytes-replicate k b below i = elim (cases_lt i k) [
-  | inl lt ↦ omega (arith, get_or-replicate k i b 0 lt)
-  | inr ge ↦ omega (arith, get_or_past (replicate k b) i 0 (omega (arith, length-replicate k b)))
-]
-
-pub IsDigest-replicate : (b : ℕ) → b < 256 → IsDigest (replicate 32 b)
-IsDigest-replicate b below = record { sized = refl; bytes_each = AreBytes-replicate 32 b below }
-
-pub is_initial-initial : (n : ℕ) → IsClientCount n → is_initial (initial n) ≡ true
-is_initial-initial n count = (is_initial-means (initial n) (in_range-initial n count).kept).1 (ap initial (sym (length-replicate n 0)))
-
-pub IsKnownBy-unmade : (n k : ℕ) → IsClientCount n → IsKnownBy n k (unmade n)
-IsKnownBy-unmade n k count = record {
-  version_in_range = in_range-initial n count;
-  tag_sized = IsDigest-replicate 0 (omega arith);
-  unsigned = λ is. (refl, refl);
-  signed = λ is_not. absurd (true≢false (sym (is_initial-initial n count) ∙ is_not));
-}
-
 pub IsStateFor-first : (n : ℕ) → IsClientCount n → IsStateFor n (first_state n)
 IsStateFor-first n count =
     let turn : (k : ℕ) → IsClient n k → turn_at (first_state n) k ≡ first_turn = λ k within. get_or-replicate n (k - 1) first_turn first_turn (omega (arith, within.from_one, within.to_n)) in

@@ -1,7 +1,8 @@
 -- The honest server: its state, and its two rows. The first definitions say what the rows read and write; the
 -- rows themselves, `submitted` and `committed`, stand at the end.
 use Rattle.std.specs.Prelude.{◌≡◌, ℕ, ◌+◌, ◌-◌, ◌==◌, ◌&&◌, Bool, true, false, not, if◌then◌else◌, List, [], ◌∷◌, ◌++◌, length, Option, Some, None, Result, Ok, Err, filter, position, drop, replicate, slice_index_or, slice_set}
-use Rattle.faust_types.specs.Versions.{Vector, initial, timestamp_at}
+use Rattle.faust_types.specs.Versions.{Vector, timestamp_at}
+use Rattle.faust_types.specs.Messages.{unmade, value_of}
 use Rattle.faust_types.specs.declared.operation.Kind.{Kind}
 use Rattle.faust_types.specs.declared.operation.Kind.TheVariants.{Write, Read}
 use Rattle.faust_types.specs.declared.message.Known.{Known}
@@ -31,10 +32,6 @@ pub record State : Type 0 where
 -- For how many clients the server is.
 abbrev pub client_count : State → ℕ
 client_count st = length st.turns
-
--- The initial version, which nobody made.
-abbrev pub unmade : ℕ → Known
-unmade n = record { maker = 0; version = initial n; tag = replicate 32 0 }
 
 -- The turn of a client that submitted nothing.
 abbrev pub first_turn : Turn
@@ -82,13 +79,9 @@ out_of_turn turn got = record { expected = expected_of turn; got = got }
 
 -- SUBMIT, step 1: a write puts its value into the memory of its client, a read keeps the value that is there,
 -- and both put their number and their data tag beside it.
-abbrev pub value_held : Option Mem → Option (List ℕ)
-value_held None = None
-value_held (Some mem) = mem.value
-
 abbrev pub value_after : Kind → Option (List ℕ) → Option Mem → Option (List ℕ)
 value_after Write value held = value
-value_after Read value held = value_held held
+value_after Read value held = value_of held
 
 abbrev pub renewed : Option Mem → Submit → Mem
 renewed held m = record { t = m.t; value = value_after m.kind m.value held; tag = m.data_tag }

@@ -1,15 +1,10 @@
 -- What every state of the server keeps.
-use Rattle.std.specs.Prelude.{◌≡◌, ℕ, ◌^◌, ◌<◌, ◌≤◌, ◌==◌, suc, if◌then◌else◌, List, [], ◌∷◌, length, IfSome}
+use Rattle.std.specs.Prelude.{◌≡◌, ℕ, ◌^◌, ◌<◌, ◌≤◌, if◌then◌else◌, length, IfSome}
 use Rattle.std.specs.List.{AllByRecursion}
 use Rattle.faust_types.specs.Clients.{IsClientCount, IsClient}
 use Rattle.faust_types.specs.Ranges.{IsDigest, IsKnownBy, IsMem, IsTupleFor}
-use Rattle.faust_types.specs.declared.message.Tuple.{Tuple}
+use Rattle.faust_types.specs.Messages.{tuples_by}
 use Rattle.faust_server.specs.Rows.{State, client_count, memory_at, version_at, turn_at}
-
--- How many tuples of client k a list has.
-abbrev pub tuples_of : ℕ → List Tuple → ℕ
-tuples_of k [] = 0
-tuples_of k (tuple ∷ rest) = if tuple.client == k then suc (tuples_of k rest) else tuples_of k rest
 
 -- A state for n clients: c is one of them, what is held of each client is in range, and each client has at most
 -- one pending tuple, and none where it is committed.
@@ -23,7 +18,7 @@ pub record IsStateFor (n : ℕ) (st : State) : Type 0 where
   pub memory_in_range : (k : ℕ) → IsClient n k → IfSome (memory_at st k) IsMem
   pub versions_known : (k : ℕ) → IsClient n k → IsKnownBy n k (version_at st k)
   pub pending_in_range : AllByRecursion (IsTupleFor n) st.pending
-  pub one_pending : (k : ℕ) → IsClient n k → tuples_of k st.pending ≤ (if (turn_at st k).uncommitted then 1 else 0)
+  pub one_pending : (k : ℕ) → IsClient n k → tuples_by k st.pending ≤ (if (turn_at st k).uncommitted then 1 else 0)
   pub proofs_sized : AllByRecursion (λ proof. IfSome proof IsDigest) st.proofs
   pub turns_below : (k : ℕ) → IsClient n k → (turn_at st k).last < 2 ^ 40
 

@@ -1,7 +1,7 @@
 ghost use Rattle.std.specs.Prelude.{◌≡◌, ◌==◌, ◌<◌, [], ◌∷◌, ◌++◌, List, length, position, IfOk, IfSome, OnOk, OnErr};
 ghost use Rattle.faust_types.specs.declared.message.Tuple.{Tuple};
+ghost use Rattle.faust_types.specs.Messages.{tuples_by};
 ghost use Rattle.faust_server.specs.Rows.{without, behind};
-ghost use Rattle.faust_server.specs.States.{tuples_of};
 
 use faust_types::{OutOfMemory, Tuple, Tuples};
 use std::alloc::Global;
@@ -44,8 +44,8 @@ impl Pending {
     /// Takes out the tuple of client i and all before it, where there is one.
     pub fn leave_through(&mut self, i: u8)
         ensures value { self.new ≡ behind i self.old }
-        ensures found { (before rest : List Tuple) (tuple : Tuple) → self.old ≡ before ++ tuple ∷ rest → tuples_of i before ≡ 0 → tuple.client ≡ i → self.new ≡ rest }
-        ensures absent { tuples_of i self.old ≡ 0 → self.new ≡ self.old }
+        ensures found { (before rest : List Tuple) (tuple : Tuple) → self.old ≡ before ++ tuple ∷ rest → tuples_by i before ≡ 0 → tuple.client ≡ i → self.new ≡ rest }
+        ensures absent { tuples_by i self.old ≡ 0 → self.new ≡ self.old }
     {
         if let Some(place) = place_of(&self.tuples, i) {
             let rest = self.tuples.len() - place - 1;
@@ -57,7 +57,7 @@ impl Pending {
     /// Takes out the tuple of client i, where there is one.
     pub fn leave(&mut self, i: u8)
         ensures value { self.new ≡ without i self.old }
-        ensures absent { tuples_of i self.old ≡ 0 → self.new ≡ self.old }
+        ensures absent { tuples_by i self.old ≡ 0 → self.new ≡ self.old }
     {
         self.tuples.retain(|tuple| tuple.client != i);
     }

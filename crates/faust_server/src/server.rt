@@ -2,8 +2,9 @@ ghost use Rattle.std.specs.Prelude.{◌≡◌, ◌^◌, ◌<◌, true, false, le
 ghost use Rattle.faust_types.specs.Clients.{IsClientCount, IsClient};
 ghost use Rattle.faust_types.specs.Versions.{clients_of};
 ghost use Rattle.faust_types.specs.Ranges.{IsSubmitFor, IsCommitFor, IsReplyFor, IsVersionFor};
+ghost use Rattle.faust_types.specs.Messages.{unmade, value_of};
 ghost use Rattle.faust_types.specs.declared.operation.Kind.TheVariants.{Read};
-ghost use Rattle.faust_server.specs.Rows.{client_count, first_state, unmade, turn_at, value_held, renewed, remembered, read_part, replied, appended, advanced, settled, submitted, committed, retaken, Serves, Settles};
+ghost use Rattle.faust_server.specs.Rows.{client_count, first_state, turn_at, renewed, remembered, read_part, replied, appended, advanced, settled, submitted, committed, retaken, Serves, Settles};
 ghost use Rattle.faust_server.specs.States.{IsState};
 
 use crate::ahead::is_ahead;
@@ -255,12 +256,7 @@ fn initial_versions(alloc: Global, n: u8) -> Result<Vec<Known>, OutOfMemory>
 {
     let mut versions = Vec::with_capacity(alloc, usize::from(n))?;
     for _ in 0..n {
-        let version = Version::initial(alloc, n)?;
-        versions.push(Known {
-            maker: 0,
-            version,
-            tag: [0; 32],
-        })?;
+        versions.push(Known::initial(alloc, n)?)?;
     }
     Ok(versions)
 }
@@ -311,7 +307,7 @@ fn renewed(held: Option<Mem>, m: Submit) -> Mem
 
 /// The memory with its value kept, and another number and data tag.
 fn refreshed(held: Option<Mem>, t: u64, tag: Tag) -> Mem
-    ensures { result ≡ record { t = t; value = value_held held; tag = tag } }
+    ensures { result ≡ record { t = t; value = value_of held; tag = tag } }
 {
     let value = match held {
         Some(mem) => mem.value,

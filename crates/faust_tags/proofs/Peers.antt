@@ -1,10 +1,10 @@
 -- The content of a message between clients tells what the message says.
-use Rattle.std.proofs.Common.{◌≡◌, ℕ, Bool, true, false, cond, List, [], ◌∷◌, ◌++◌, drop, get_or, replicate, inl, inr, arith, ap, refl, sym, ◌∙◌}
+use Rattle.std.proofs.Common.{◌≡◌, ℕ, Bool, true, false, cond, List, [], ◌∷◌, ◌++◌, drop, get_or, inl, inr, arith, ap, refl, sym, ◌∙◌}
 use Rattle.std.proofs.lemmas.Bool.{cases_Bool}
-use Rattle.faust_types.proofs.Order.{is_initial-means}
+use Rattle.faust_types.proofs.Messages.{unmade-only}
 use Rattle.faust_types.specs.Ranges.{IsAnnouncedFor, IsPeerFor}
 use Rattle.faust_types.specs.Spelling.{announced, peer_byte, peer_content, version_bytes}
-use Rattle.faust_types.specs.Versions.{Vector, initial, is_initial}
+use Rattle.faust_types.specs.Versions.{Vector, is_initial}
 use Rattle.faust_types.specs.declared.message.Known.{Known}
 use Rattle.faust_types.specs.declared.message.Peer.{Peer}
 use Rattle.faust_types.specs.declared.message.Peer.TheVariants as peers
@@ -29,16 +29,6 @@ of_other : (known : Known) → is_initial known.version ≡ false → announced 
 unfolding announced
 of_other known h = ap (λ (b : Bool). cond b (0 ∷ []) (known.maker ∷ (version_bytes known.version ++ known.tag))) h
 
--- the initial version of n clients has one form
-initial_form : (n : ℕ) (known : Known) → IsAnnouncedFor n known → is_initial known.version ≡ true →
-    known ≡ known_of 0 (initial n) (replicate 32 0)
-initial_form n known range h =
-    let by = range.known_by in
-    let unsigned = by.unsigned h in
-    let versions : known.version ≡ initial n =
-    (is_initial-means known.version by.version_in_range.kept).0 h ∙ ap (λ (m : ℕ). initial m) by.version_in_range.count in
-    same_known known.maker 0 known.version (initial n) known.tag (replicate 32 0) unsigned.0 versions unsigned.1
-
 -- only the initial version is spelled by a 0
 differ : (n : ℕ) (known other : Known) → IsAnnouncedFor n other → is_initial known.version ≡ true → is_initial other.version ≡ false →
     announced known ≡ announced other → ⊥
@@ -62,7 +52,7 @@ pub announced_tells : (n : ℕ) (known other : Known) → IsAnnouncedFor n known
 announced_tells n known other known_range other_range same =
     elim (cases_Bool (is_initial known.version)) [
       | inl h ↦ elim (cases_Bool (is_initial other.version)) [
-        | inl g ↦ initial_form n known known_range h ∙ sym (initial_form n other other_range g)
+        | inl g ↦ unmade-only n known.maker known known_range.known_by h ∙ sym (unmade-only n other.maker other other_range.known_by g)
         | inr g ↦ absurd (differ n known other other_range h g same)
       ]
       | inr h ↦ elim (cases_Bool (is_initial other.version)) [

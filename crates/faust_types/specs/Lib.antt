@@ -2,4 +2,5 @@ pub mod Clients
 pub mod Versions
 pub mod Outcomes
 pub mod Ranges
+pub mod Messages
 pub mod Spelling

@@ -3,8 +3,9 @@
 // as two lists, one of timestamps and one of digests, of which a digest is absent exactly at timestamp 0.
 //
 // `specs/Versions.antt` comes first: the order of versions, and what a step changes. `specs/Clients.antt` says
-// what a client's number is, `specs/Ranges.antt` which messages are in range for n clients, and
-// `specs/Spelling.antt` the bytes of versions and of peer messages, which the wire and the tags share.
+// what a client's number is, `specs/Ranges.antt` which messages are in range for n clients, `specs/Messages.antt`
+// what is said of their parts besides, and `specs/Spelling.antt` the bytes of versions and of peer messages, which
+// the wire and the tags share.
 //
 // No message is read or written here, and nothing is hashed.
 #![tactic(auto)]

@@ -1,10 +1,13 @@
 ghost use Rattle.std.specs.Prelude.{◌≡◌, ◌++◌, length, take, IfOk, OnOk, OnErr};
+ghost use Rattle.faust_types.specs.Clients.{IsClientCount};
+ghost use Rattle.faust_types.specs.Messages.{unmade};
 ghost use Rattle.faust_types.specs.Spelling.{announced, peer_byte, peer_content, peer_front};
 
 use crate::operation::Kind;
 use crate::out_of_memory::OutOfMemory;
 use crate::sequence::{Bytes, Sequence};
 use crate::version::{Tag, Version};
+use std::alloc::Global;
 
 /// A version with the commit tag of its maker. The initial version has maker 0 and a tag of zero bytes.
 #[derive(Debug, Drop)]
@@ -106,6 +109,18 @@ pub enum Message {
 }
 
 impl Known {
+    /// The initial version of n clients, which nobody made.
+    pub fn initial(alloc: Global, n: u8) -> Result<Known, OutOfMemory>
+        requires { IsClientCount n }
+        ensures { IfOk result (λ known. known ≡ unmade n) }
+    {
+        Ok(Known {
+            maker: 0,
+            version: Version::initial(alloc, n)?,
+            tag: [0; 32],
+        })
+    }
+
     /// An equal version with its tag, of its own.
     pub fn copy(&self) -> Result<Known, OutOfMemory>
         ensures { IfOk result (λ copy. copy ≡ self.now) }

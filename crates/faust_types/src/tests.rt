@@ -115,6 +115,15 @@ fn known(alloc: Global) -> Result<Known, OutOfMemory> {
 }
 
 #[test]
+fn nobody_made_the_initial_version(rt: HostRuntime) -> Result<(), Fail> {
+    let known = Known::initial(rt.alloc(), 2)?;
+    assert_eq!(rt; known.maker, 0);
+    assert_eq!(rt; known.tag, [0; 32]);
+    assert_eq!(rt; known.version.is_initial(), true);
+    Ok(())
+}
+
+#[test]
 fn messages_are_copied(rt: HostRuntime) -> Result<(), Fail> {
     let mem = Mem {
         t: 1,

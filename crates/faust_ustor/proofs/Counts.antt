@@ -4,6 +4,7 @@ use Rattle.std.specs.List.{AllByRecursion}
 use Rattle.std.proofs.lemmas.Bool.{cond-true, cond-false, cases_eq, eq-eqb, ne_eqb}
 use Rattle.faust_types.specs.Clients.{IsClient}
 use Rattle.faust_types.specs.Versions.{Vector, clients_of, timestamp_at}
+use Rattle.faust_types.specs.Messages.{tuples_by}
 use Rattle.faust_types.specs.Ranges.{IsReplyFor, IsTupleFor}
 use Rattle.faust_types.specs.declared.message.ReadPart.{ReadPart}
 use Rattle.faust_types.specs.declared.message.Reply.{Reply}
@@ -12,7 +13,7 @@ use Rattle.faust_types.proofs.Entries.{timestamp-with_entry, timestamp-with_entr
 use Rattle.faust_hash.specs.Chain.{chain_of, link}
 use Rattle.faust_ustor.specs.declared.walk.Walk.{Walk}
 use Rattle.faust_ustor.specs.Checks.{advanced, begun}
-use Rattle.faust_ustor.specs.Passed.{followed, tuples_by, clients_after, AreTuplesPassed, next_of, told_of}
+use Rattle.faust_ustor.specs.Passed.{followed, clients_after, AreTuplesPassed, next_of, told_of}
 
 pub clients-advanced : (walk : Walk) (k : ℕ) → clients_of (advanced walk k).version ≡ clients_of walk.version
 clients-advanced walk k = length-set walk.version.timestamps (k - 1) (timestamp_at walk.version k + 1)

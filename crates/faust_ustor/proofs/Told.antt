@@ -2,7 +2,9 @@
 use Rattle.std.proofs.Common.{◌≡◌, ℕ, ◌^◌, ◌<◌, false, true, List, Option, Some, None, Result, Ok, Err, IfOk, IfSome, subst, arith}
 use Rattle.std.proofs.lemmas.Bool.{eqb-true}
 use Rattle.faust_types.specs.Versions.{Vector, is_initial}
+use Rattle.faust_types.specs.Messages.{value_of}
 use Rattle.faust_types.specs.Ranges.{IsVersionFor, IsReadPartFor, IsMem, IsValue, IsKnownBy}
+use Rattle.faust_types.proofs.Messages.{value_of-in_range}
 use Rattle.faust_types.specs.declared.operation.Kind.{Kind}
 use Rattle.faust_types.specs.declared.operation.Kind.TheVariants.{Write, Read}
 use Rattle.faust_types.specs.declared.operation.Notice.{Notice}
@@ -10,17 +12,13 @@ use Rattle.faust_types.specs.declared.message.Mem.{Mem}
 use Rattle.faust_types.specs.declared.message.ReadPart.{ReadPart}
 use Rattle.faust_ustor.specs.declared.judgement.Judged.{Judged}
 use Rattle.faust_ustor.specs.declared.refusal.JudgeError.{JudgeError}
-use Rattle.faust_ustor.specs.Checks.{answered, broken_part, is_part_for, time_of, unless, value_of, Gives}
+use Rattle.faust_ustor.specs.Checks.{answered, broken_part, is_part_for, time_of, unless, Gives}
 use Rattle.faust_ustor.specs.InRange.{IsJudgedFor}
 
 -- where nothing is broken, the result is the one due
 pub unless-ok : {X : Type 0} (b : Option Notice) (x y : X) → unless b (Ok x) ≡ Ok y → x ≡ y
 unless-ok None x y h = cc
 unless-ok (Some notice) x y h = cc
-
-pub value-in_range : (mem : Option Mem) → IfSome mem IsMem → IfSome (value_of mem) IsValue
-value-in_range None h = tt
-value-in_range (Some mem) h = h.value_in_range
 
 pub time-below : (mem : Option Mem) → IfSome mem IsMem → time_of mem < 2 ^ 40
 time-below None h = omega arith
@@ -42,7 +40,7 @@ answered-in_range n register kind key version next (Some part) judged range made
     subst (IsJudgedFor n register) same (record {
       next_in_range = range;
       next_made = made;
-      value_in_range = value-in_range part.mem h.mem_in_range;
+      value_in_range = value_of-in_range part.mem h.mem_in_range;
       asof_below = time-below part.mem h.mem_in_range;
       heard_known = subst (λ (k : ℕ). IsKnownBy n k part.version) (part-of-register kind register part fits) h.version_known;
     })

@@ -2,6 +2,7 @@
 -- are the conditions, one a check; then comes the walk over the pending tuples; `judged` stands at the end.
 use Rattle.std.specs.Prelude.{◌≡◌, ℕ, ◌+◌, ◌-◌, ◌^◌, ◌==◌, ◌&&◌, ◌||◌, Bool, true, false, not, if◌then◌else◌, List, [], ◌∷◌, Option, Some, None, Result, Ok, Err, nat_lt, slice_index_or}
 use Rattle.faust_types.specs.Versions.{Vector, timestamp_at, digest_at, stepped, is_at_most, is_initial}
+use Rattle.faust_types.specs.Messages.{value_of}
 use Rattle.faust_types.specs.declared.operation.Kind.{Kind}
 use Rattle.faust_types.specs.declared.operation.Kind.TheVariants.{Write, Read}
 use Rattle.faust_types.specs.declared.operation.Operation.{Operation}
@@ -129,11 +130,6 @@ broken_part key version next part =
     else if not (is_latest next part.register part.mem) then broken 11 0
     else if not (is_recent version part.register part.version.version (time_of part.mem)) then broken 12 0
     else None
-
--- The value in memory, if any.
-abbrev pub value_of : Option Mem → Option (List ℕ)
-value_of None = None
-value_of (Some mem) = mem.value
 
 -- What a write tells, and what a read tells whose part breaks no check: the value, and the version of j.
 abbrev pub answered : List ℕ → Vector → Vector → Option ReadPart → Result Judged Notice

@@ -1,23 +1,19 @@
 -- What it is that a reply breaks no check, whatever their order, and what it then tells.
-use Rattle.std.specs.Prelude.{◌≡◌, ◌≢◌, ℕ, ◌+◌, ◌==◌, ◌⊎◌, suc, true, cond, List, [], ◌∷◌, Option, Some, None, IfSome}
+use Rattle.std.specs.Prelude.{◌≡◌, ◌≢◌, ℕ, ◌+◌, ◌⊎◌, true, List, [], ◌∷◌, Option, Some, None, IfSome}
 use Rattle.faust_types.specs.Versions.{Vector, IsAtMost, timestamp_at}
+use Rattle.faust_types.specs.Messages.{value_of}
 use Rattle.faust_types.specs.declared.operation.Operation.{Operation}
 use Rattle.faust_types.specs.declared.message.Tuple.{Tuple}
 use Rattle.faust_types.specs.declared.message.ReadPart.{ReadPart}
 use Rattle.faust_types.specs.declared.message.Reply.{Reply}
 use Rattle.faust_ustor.specs.declared.judgement.Judged.{Judged}
 use Rattle.faust_ustor.specs.declared.walk.Walk.{Walk}
-use Rattle.faust_ustor.specs.Checks.{advanced, begun, is_known_right, is_mem_right, is_next_submitted, is_part_for, is_proven, time_of, value_of}
+use Rattle.faust_ustor.specs.Checks.{advanced, begun, is_known_right, is_mem_right, is_next_submitted, is_part_for, is_proven, time_of}
 
 -- The walk after one operation of the client of each tuple.
 abbrev pub followed : Walk → List Tuple → Walk
 followed walk [] = walk
 followed walk (tuple ∷ rest) = followed (advanced walk tuple.client) rest
-
--- How many of the tuples are by client k.
-abbrev pub tuples_by : ℕ → List Tuple → ℕ
-tuples_by k [] = 0
-tuples_by k (tuple ∷ rest) = cond (tuple.client == k) (suc (tuples_by k rest)) (tuples_by k rest)
 
 -- The clients of operations, the last one first, after those of the tuples.
 abbrev pub clients_after : List ℕ → List Tuple → List ℕ

@@ -2,6 +2,7 @@
 ghost use Rattle.std.specs.Prelude.{◌≡◌, ◌≢◌, ℕ, ◌+◌, List, Ok};
 ghost use Rattle.faust_types.specs.Clients.{IsClient};
 ghost use Rattle.faust_types.specs.Versions.{Vector, IsAtMost, clients_of, timestamp_at};
+ghost use Rattle.faust_types.specs.Messages.{tuples_by};
 ghost use Rattle.faust_types.specs.Ranges.{IsReplyFor};
 ghost use Rattle.faust_types.specs.declared.operation.Operation.{Operation};
 ghost use Rattle.faust_types.specs.declared.message.Reply.{Reply};
@@ -11,7 +12,7 @@ ghost use Rattle.faust_ustor.specs.declared.judgement.Judged.{Judged};
 ghost use Rattle.faust_ustor.specs.declared.walk.Walk.{Walk};
 ghost use Rattle.faust_ustor.specs.Checks.{judged};
 ghost use Rattle.faust_ustor.specs.Hashed.{all_inputs, hashed};
-ghost use Rattle.faust_ustor.specs.Passed.{IsPassed, clients_after, followed, told, tuples_by};
+ghost use Rattle.faust_ustor.specs.Passed.{IsPassed, clients_after, followed, told};
 ghost use Rattle.faust_ustor.specs.InRange.{IsPendingOf};
 
 /// A reply that is judged to pass breaks no check, whatever their order, and one that breaks none passes. The

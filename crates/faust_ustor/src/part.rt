@@ -1,8 +1,9 @@
 ghost use Rattle.std.specs.Prelude.{◌≡◌, IfOk, IfSome};
 ghost use Rattle.faust_types.specs.Clients.{IsClient};
 ghost use Rattle.faust_types.specs.Versions.{clients_of};
+ghost use Rattle.faust_types.specs.Messages.{value_of};
 ghost use Rattle.faust_types.specs.Ranges.{IsReadPartFor};
-ghost use Rattle.faust_ustor.specs.Checks.{answered, broken_part, is_latest, is_recent, time_of, value_of, Gives, Passes};
+ghost use Rattle.faust_ustor.specs.Checks.{answered, broken_part, is_latest, is_recent, time_of, Gives, Passes};
 
 use crate::judgement::Judged;
 use crate::refusal::JudgeError;

@@ -218,14 +218,9 @@ pub fn of_all(alloc: Global) -> Result<Reply, OutOfMemory> {
     for k in 1..=31 {
         pending.push(tuple_of(k, 1))?;
     }
-    let version = Known {
-        maker: 0,
-        version: Version::initial(alloc, 32)?,
-        tag: [0; 32],
-    };
     Ok(Reply {
         c: 1,
-        version,
+        version: Known::initial(alloc, 32)?,
         pending,
         proofs: Sequence::from_slice(alloc, &[None; 32])?,
         read: None,

@@ -1,23 +1,24 @@
 -- The readers of signed versions, tuples, memories and read parts.
-use Rattle.std.proofs.Common.{◌≡◌, ℕ, zero, suc, ◌≤◌, Bool, true, false, cond, List, [], ◌∷◌, ◌++◌, length, get_or, replicate, Option, Some, refl, sym, ap, subst, ◌∙◌, append_assoc, arith, inl, inr}
+use Rattle.std.proofs.Common.{◌≡◌, ℕ, zero, suc, ◌≤◌, Bool, true, false, cond, List, [], ◌∷◌, ◌++◌, length, Option, Some, refl, sym, ap, subst, ◌∙◌, append_assoc, arith, inl, inr}
 use Rattle.std.specs.Prelude.{IfSome, nat_lt, ◌==◌, flat_map}
 use Rattle.std.specs.List.{AllByRecursion}
 use Rattle.std.proofs.lemmas.Bool.{both_ways, cases_Bool, ltb-false, le-ltb, eqb-true, eqb-false, ne_eqb}
 use Rattle.std.proofs.lemmas.Option.{same_Some}
-use Rattle.std.proofs.lemmas.List.{length-replicate}
 use Rattle.faust_types.specs.Clients.{IsClientCount, IsClient}
-use Rattle.faust_types.specs.Versions.{Vector, initial, is_initial}
+use Rattle.faust_types.specs.Versions.{Vector, is_initial}
 use Rattle.faust_types.specs.Ranges.{AreBytes, IsKnownBy, IsAnnouncedFor, IsTupleFor, IsMem, IsReadPartFor}
+use Rattle.faust_types.specs.Messages.{unmade}
 use Rattle.faust_types.specs.Spelling.{be64, version_bytes, announced}
+use Rattle.faust_types.proofs.Messages.{is_initial-initial, IsKnownBy-unmade, unmade-only}
 use Rattle.faust_types.specs.declared.message.Known.{Known}
 use Rattle.faust_types.specs.declared.message.Tuple.{Tuple}
 use Rattle.faust_types.specs.declared.message.Mem.{Mem}
 use Rattle.faust_types.specs.declared.message.ReadPart.{ReadPart}
 use Rattle.faust_wire.specs.Grammar.{signed_bytes, optional_value_bytes, memory_bytes, tuple_bytes, read_part_bytes}
-use Rattle.faust_wire.specs.Reading.{next_flag, next_version, next_tag, next_known, next_signed, next_announced, next_up_to, next_kind, next_number, next_tuple, next_pending, next_value, next_mem, next_read_part, optionally, unsigned}
+use Rattle.faust_wire.specs.Reading.{next_flag, next_version, next_tag, next_known, next_signed, next_announced, next_up_to, next_kind, next_number, next_tuple, next_pending, next_value, next_mem, next_read_part, optionally}
 use Rattle.faust_wire.proofs.Readers.{bind_ok, bind_some, unless_ok, chosen, AreBytes-rest, takes_then, IsRead, IsReader, optionally_reader, items_reader}
 use Rattle.faust_wire.proofs.SmallParts.{tag_reader, client_reader, kind_reader, number_reader, optional_value_reader}
-use Rattle.faust_wire.proofs.Entries.{version_reader, initial_fits, is_initial-initial, initial_is}
+use Rattle.faust_wire.proofs.Entries.{version_reader}
 
 -- ---- known versions
 
@@ -59,24 +60,6 @@ known_again n count maker known rest fits =
 pub known_reader : (n : ℕ) → IsClientCount n → (maker : ℕ) → IsReader Known (next_known n maker) known_text (IsSigned n maker)
 known_reader n count maker = record { takes = known_takes n count maker; again = known_again n count maker }
 
-zeros_at : (n i : ℕ) → let zeros : List ℕ = replicate n 0 in get_or zeros i 0 ≡ 0
-zeros_at zero i = refl
-zeros_at (suc n) zero = refl
-zeros_at (suc n) (suc i) = zeros_at n i
-
-unsigned_fits : (n maker : ℕ) → IsClientCount n → IsKnownBy n maker (unsigned n)
-unsigned_fits n maker count = record {
-  version_in_range = initial_fits n count;
-  tag_sized = record { sized = length-replicate {A = ℕ} 32 0; bytes_each = λ i. rw (zeros_at 32 i) (omega arith) };
-  unsigned = λ h. (refl, refl);
-  signed = λ h. absurd (both_ways _ h (is_initial-initial n count));
-}
-
-unsigned_is : (n maker : ℕ) (known : Known) → IsKnownBy n maker known → is_initial known.version ≡ true → unsigned n ≡ known
-unsigned_is n maker known fits h =
-    let none = fits.unsigned h in
-    sym (ap (λ (m : ℕ). known_of m known.version known.tag) none.0 ∙ ap (λ (v : Vector). known_of 0 v known.tag) (initial_is n known.version fits.version_in_range h) ∙ ap (known_of 0 (initial n)) none.1)
-
 -- a spelling that is one byte for the initial version
 cond_text : (known : Known) (b : Bool) (x y : List ℕ) → is_initial known.version ≡ b → cond (is_initial known.version) x y ≡ cond b x y
 cond_text known b x y e = ap (λ (c : Bool). cond c x y) e
@@ -85,10 +68,10 @@ signed_takes : (n : ℕ) → IsClientCount n → (maker : ℕ) (bytes : List ℕ
 unfolding next_signed next_flag signed_bytes
 signed_takes n count maker [] x fits e = absurd cc
 signed_takes n count maker (zero ∷ bytes) x fits e =
-    let text : 0 ∷ [] ≡ signed_bytes (unsigned n) = sym (cond_text (unsigned n) true (0 ∷ []) (1 ∷ known_text (unsigned n)) (is_initial-initial n count)) in
+    let text : 0 ∷ [] ≡ signed_bytes (unmade n) = sym (cond_text (unmade n) true (0 ∷ []) (1 ∷ known_text (unmade n)) (is_initial-initial n count)) in
     subst (IsRead Known signed_bytes (IsKnownBy n maker) (0 ∷ bytes)) (same_Some _ _ e) (record {
       taken = record { parts = ap (λ (t : List ℕ). t ++ bytes) text; rest_bytes = AreBytes-rest 0 bytes fits };
-      fits = unsigned_fits n maker count;
+      fits = IsKnownBy-unmade n maker count;
     })
 signed_takes n count maker (suc zero ∷ bytes) x fits e =
     let r = known_takes n count maker bytes x (AreBytes-rest 1 bytes fits) e in
@@ -103,7 +86,7 @@ signed_again : (n : ℕ) → IsClientCount n → (maker : ℕ) (known : Known) (
 unfolding next_signed next_flag signed_bytes
 signed_again n count maker known rest fits =
     elim (cases_Bool (is_initial known.version)) [
-      | inl h ↦ ap (λ (t : List ℕ). next_signed n maker (t ++ rest)) (cond_text known true (0 ∷ []) (1 ∷ known_text known) h) ∙ ap (λ (k : Known). Some (k, rest)) (unsigned_is n maker known fits h)
+      | inl h ↦ ap (λ (t : List ℕ). next_signed n maker (t ++ rest)) (cond_text known true (0 ∷ []) (1 ∷ known_text known) h) ∙ ap (λ (k : Known). Some (k, rest)) (sym (unmade-only n maker known fits h))
       | inr h ↦ ap (λ (t : List ℕ). next_signed n maker (t ++ rest)) (cond_text known false (0 ∷ []) (1 ∷ known_text known) h) ∙ known_again n count maker known rest (record { known_by = fits; not_initial = h })
     ]
 
@@ -116,10 +99,10 @@ announced_takes n count [] x fits e = absurd cc
 announced_takes n count (k ∷ bytes) x fits e =
     elim (chosen (k == 0) _ _ _ e) [
       | inl w ↦
-          let text : k ∷ [] ≡ announced (unsigned n) = ap (λ (m : ℕ). m ∷ []) (eqb-true k 0 w.0) ∙ sym (cond_text (unsigned n) true (0 ∷ []) (0 ∷ known_text (unsigned n)) (is_initial-initial n count)) in
+          let text : k ∷ [] ≡ announced (unmade n) = ap (λ (m : ℕ). m ∷ []) (eqb-true k 0 w.0) ∙ sym (cond_text (unmade n) true (0 ∷ []) (0 ∷ known_text (unmade n)) (is_initial-initial n count)) in
           subst (IsRead Known announced (IsAnnouncedFor n) (k ∷ bytes)) (same_Some _ _ w.1) (record {
             taken = record { parts = ap (λ (t : List ℕ). t ++ bytes) text; rest_bytes = AreBytes-rest k bytes fits };
-            fits = record { known_by = unsigned_fits n 0 count; maker_in_range = λ h. absurd (both_ways _ h (is_initial-initial n count)) };
+            fits = record { known_by = IsKnownBy-unmade n 0 count; maker_in_range = λ h. absurd (both_ways _ h (is_initial-initial n count)) };
           })
       | inr w ↦
           let g = unless_ok _ _ _ w.1 in
@@ -140,7 +123,7 @@ announced_again : (n : ℕ) → IsClientCount n → (known : Known) (rest : List
 unfolding next_announced announced
 announced_again n count known rest fits =
     elim (cases_Bool (is_initial known.version)) [
-      | inl h ↦ ap (λ (t : List ℕ). next_announced n (t ++ rest)) (cond_text known true (0 ∷ []) (known.maker ∷ known_text known) h) ∙ ap (λ (k : Known). Some (k, rest)) (unsigned_is n known.maker known fits.known_by h)
+      | inl h ↦ ap (λ (t : List ℕ). next_announced n (t ++ rest)) (cond_text known true (0 ∷ []) (known.maker ∷ known_text known) h) ∙ ap (λ (k : Known). Some (k, rest)) (sym (unmade-only n known.maker known fits.known_by h))
       | inr h ↦
           let c = fits.maker_in_range h in
           let positive : (known.maker == 0) ≡ false = ne_eqb known.maker 0 (λ q. absurd (omega (arith, c.from_one, q))) in

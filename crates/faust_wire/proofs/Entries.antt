@@ -4,12 +4,11 @@ use Rattle.std.specs.Prelude.{IfSome, IsNone, is_none, ◌==◌, flat_map, slice
 use Rattle.std.specs.List.{AllZip}
 use Rattle.std.proofs.lemmas.Bool.{eqb-true, eqb-false, eq-eqb, ne_eqb, true≢false, false≢true}
 use Rattle.std.proofs.lemmas.Option.{same_Some}
-use Rattle.std.proofs.lemmas.List.{append-nil, length_push, length-append, set_at, nil_from_length, length-replicate}
+use Rattle.std.proofs.lemmas.List.{append-nil, length_push, length-append, set_at, nil_from_length}
 use Rattle.faust_types.specs.Clients.{IsClientCount, IsClient}
-use Rattle.faust_types.specs.Versions.{Vector, clients_of, initial, is_initial}
+use Rattle.faust_types.specs.Versions.{Vector, clients_of, initial}
 use Rattle.faust_types.specs.Ranges.{AreBytes, IsDigest, IsVersionFor}
 use Rattle.faust_types.specs.Spelling.{be64, optional, version_bytes}
-use Rattle.faust_types.proofs.Order.{is_initial-means}
 use Rattle.faust_wire.specs.Reading.{next_bytes, next_timestamp, next_optional, next_digest, next_entries, next_version, entered}
 use Rattle.faust_wire.proofs.Readers.{bind_ok, bind_some, unless_ok, chosen, Takes, takes_then, IsRead, IsReader}
 use Rattle.faust_wire.proofs.SmallParts.{bytes_take, bytes_again, length-be64, timestamp_reader, optional_reader}
@@ -168,10 +167,6 @@ entries_paired [] (d ∷ ds) entries = absurd entries
 entries_paired (t ∷ ts) [] entries = absurd entries
 entries_paired (t ∷ ts) (d ∷ ds) entries = ap suc (entries_paired ts ds entries.1)
 
-entries_blank : (n : ℕ) → AllZip IsEntry (replicate n 0) (replicate n None)
-entries_blank zero = tt
-entries_blank (suc n) = (record { below = omega arith; absent = (λ h. refl, λ h. refl); sized = tt }, entries_blank n)
-
 pub version_entries : (n : ℕ) (v : Vector) → IsVersionFor n v → AllZip IsEntry v.timestamps v.digests
 version_entries n v fits =
     entries_from v.timestamps v.digests (sym fits.kept.paired)
@@ -225,14 +220,3 @@ version_again n v rest fits =
 
 pub version_reader : (n : ℕ) → IsClientCount n → IsReader Vector (next_version n) version_bytes (IsVersionFor n)
 version_reader n count = record { takes = version_takes n count; again = version_again n }
-
-pub initial_fits : (n : ℕ) → IsClientCount n → IsVersionFor n (initial n)
-initial_fits n count = version_fits n (replicate n 0) (replicate n None) count (length-replicate n 0) (entries_blank n)
-
-pub is_initial-initial : (n : ℕ) → IsClientCount n → is_initial (initial n) ≡ true
-is_initial-initial n count =
-    let fits = initial_fits n count in
-    (is_initial-means (initial n) fits.kept).1 (ap initial (sym fits.count))
-
-pub initial_is : (n : ℕ) (v : Vector) → IsVersionFor n v → is_initial v ≡ true → v ≡ initial n
-initial_is n v fits h = (is_initial-means v fits.kept).0 h ∙ ap initial fits.count

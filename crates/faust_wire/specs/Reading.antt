@@ -1,9 +1,10 @@
 -- Reading from left to right. Each `next_` answers the piece that stands at the front of the bytes with the
 -- bytes after it, or none where no such piece stands there. The last two, `message_of` and `version_of`, read all
 -- of the bytes; `laws` says that they read exactly what the grammar spells.
-use Rattle.std.specs.Prelude.{◌≡◌, ℕ, zero, suc, ◌+◌, ◌*◌, ◌^◌, Bool, true, false, ◌||◌, List, [], ◌∷◌, ◌++◌, length, take, drop, replicate, Option, Some, None, is_none, Result, Ok, Err, nat_lt, ◌==◌, if◌then◌else◌}
+use Rattle.std.specs.Prelude.{◌≡◌, ℕ, zero, suc, ◌+◌, ◌*◌, ◌^◌, Bool, true, false, ◌||◌, List, [], ◌∷◌, ◌++◌, length, take, drop, Option, Some, None, is_none, Result, Ok, Err, nat_lt, ◌==◌, if◌then◌else◌}
 use Rattle.std.specs.Int.{from_be_bytes, w16, w64}
 use Rattle.faust_types.specs.Versions.{Vector, initial, is_initial, with_entry}
+use Rattle.faust_types.specs.Messages.{unmade}
 use Rattle.faust_types.specs.declared.operation.Kind.{Kind}
 use Rattle.faust_types.specs.declared.operation.Kind.TheVariants.{Write, Read}
 use Rattle.faust_types.specs.declared.message.Known.{Known}
@@ -121,10 +122,6 @@ next_version n bytes = do
   timestamps ← next_bytes (8 * n) bytes
   next_entries n 0 (initial n) timestamps.0 timestamps.1
 
--- The initial version, which nobody signs.
-abbrev pub unsigned : ℕ → Known
-unsigned n = record { maker = 0; version = initial n; tag = replicate 32 0 }
-
 -- A version that isn't initial, and its maker's tag.
 unfoldable pub next_known : ℕ → ℕ → List ℕ → Option (Known × List ℕ)
 next_known n maker bytes = do
@@ -135,7 +132,7 @@ next_known n maker bytes = do
 unfoldable pub next_signed : ℕ → ℕ → List ℕ → Option (Known × List ℕ)
 next_signed n maker bytes = do
   flag ← next_flag bytes
-  if flag.0 then next_known n maker flag.1 else Some (unsigned n, flag.1)
+  if flag.0 then next_known n maker flag.1 else Some (unmade n, flag.1)
 
 unfoldable pub next_value : List ℕ → Option (List ℕ × List ℕ)
 next_value bytes = do
@@ -204,7 +201,7 @@ next_commit n bytes = do
 unfoldable pub next_announced : ℕ → List ℕ → Option (Known × List ℕ)
 next_announced n bytes = do
   maker ← next_byte bytes
-  if maker.0 == 0 then Some (unsigned n, maker.1) else if nat_lt n maker.0 then None else next_known n maker.0 maker.1
+  if maker.0 == 0 then Some (unmade n, maker.1) else if nat_lt n maker.0 then None else next_known n maker.0 maker.1
 
 -- What a peer message of this kind carries.
 unfoldable pub next_content : ℕ → ℕ → List ℕ → Option (Peer × List ℕ)

@@ -7,7 +7,7 @@ use crate::numbers::{
 };
 use crate::parts::{next_byte, next_kind, next_number, next_tag, next_up_to, next_value};
 use crate::pieces::{next_optional_read_part, next_pending, next_proofs};
-use crate::version::{next_known, next_signed, next_version, unsigned};
+use crate::version::{next_known, next_signed, next_version};
 use faust_types::{Bytes, Commit, Kind, Known, Message, Peer, PeerMessage, Reply, Submit};
 use std::alloc::Global;
 
@@ -94,7 +94,7 @@ fn next_announced(alloc: Global, n: u8, bytes: &[u8]) -> Result<(Known, &[u8]), 
 {
     let (maker, rest) = next_byte(bytes)?;
     if maker == 0 {
-        return Ok((unsigned(alloc, n)?, rest));
+        return Ok((Known::initial(alloc, n)?, rest));
     }
     if maker > n {
         return Err(WireError::Malformed);

@@ -1,11 +1,11 @@
 ghost use Rattle.std.specs.Prelude.{◌≡◌, ◌^◌, ◌<◌, ◌↔◌, IsNone, IfOk};
 ghost use Rattle.faust_types.specs.Clients.{IsClientCount, IsClient};
 ghost use Rattle.faust_types.specs.Versions.{clients_of};
-ghost use Rattle.faust_wire.specs.Reading.{Gives, next_digest, next_version, next_known, next_signed, entered, unsigned};
+ghost use Rattle.faust_wire.specs.Reading.{Gives, next_digest, next_version, next_known, next_signed, entered};
 
 use crate::error::WireError;
 use crate::parts::{next_bytes, next_flag, next_optional, next_tag, next_timestamp};
-use faust_types::{Digest, Known, OutOfMemory, Version};
+use faust_types::{Digest, Known, Version};
 use std::alloc::Global;
 
 #[tactic(auto, unfolding(crate::specs::Reading::next_digest))]
@@ -52,17 +52,6 @@ pub(crate) fn next_version(
     Ok((version, digests))
 }
 
-pub(crate) fn unsigned(alloc: Global, n: u8) -> Result<Known, OutOfMemory>
-    requires { IsClientCount n }
-    ensures { IfOk result (λ known. known ≡ unsigned n) }
-{
-    Ok(Known {
-        maker: 0,
-        version: Version::initial(alloc, n)?,
-        tag: [0; 32],
-    })
-}
-
 #[tactic(auto, unfolding(crate::specs::Reading::next_known))]
 pub(crate) fn next_known(
     alloc: Global,
@@ -100,7 +89,7 @@ pub(crate) fn next_signed(
 {
     let (there, rest) = next_flag(bytes)?;
     if !there {
-        return Ok((unsigned(alloc, n)?, rest));
+        return Ok((Known::initial(alloc, n)?, rest));
     }
     next_known(alloc, n, maker, rest)
 }

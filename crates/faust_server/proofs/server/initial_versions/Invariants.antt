@@ -1,5 +1,5 @@
 use Rattle.std.proofs.Common.{◌≡◌, replicate}
-use Rattle.faust_server.specs.Rows.{unmade}
+use Rattle.faust_types.specs.Messages.{unmade}
 use Rattle.faust_server.proofs.server.initial_versions.Given as goal
 
 abbrev pub invariant-loop : goal.invariant-loop

@@ -1,6 +1,7 @@
 use Rattle.std.proofs.Common.{◌≡◌, None, replicate, rules}
 use Rattle.faust_server.proofs.Kept.{IsState-for, IsStateFor-first}
-use Rattle.faust_server.specs.Rows.{unmade, first_turn, first_state}
+use Rattle.faust_types.specs.Messages.{unmade}
+use Rattle.faust_server.specs.Rows.{first_turn, first_state}
 use Rattle.faust_server.proofs.server.Server.new.Goals as goal
 
 pub invariant_of-result : goal.invariant_of-result

@@ -1,7 +1,7 @@
 use Rattle.std.proofs.Common.{◌≡◌, false, ℕ, sym, ◌∙◌, subst, arith, replicate, rules}
 use Rattle.faust_types.specs.Ranges.{IsDigest, IsCommitFor}
 use Rattle.faust_types.specs.declared.message.Commit.{Commit}
-use Rattle.faust_server.proofs.Kept.{IsDigest-replicate}
+use Rattle.faust_types.proofs.Messages.{IsDigest-replicate}
 use Rattle.faust_server.proofs.server.tests.commit.Goals as goal
 
 pub commit-requires-clause-message : goal.commit-requires-clause-message

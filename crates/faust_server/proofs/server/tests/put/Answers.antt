@@ -1,6 +1,6 @@
 use Rattle.std.proofs.Common.{arith, replicate}
 use Rattle.faust_types.proofs.Entries.{in_range-with_entry}
-use Rattle.faust_server.proofs.Kept.{IsDigest-replicate}
+use Rattle.faust_types.proofs.Messages.{IsDigest-replicate}
 use Rattle.faust_server.proofs.server.tests.put.Goals as goal
 
 pub returns : goal.returns

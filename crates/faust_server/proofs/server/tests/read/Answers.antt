@@ -1,6 +1,6 @@
 use Rattle.std.proofs.Common.{ℕ, sym, subst, refl, arith, replicate, Option, None, List}
 use Rattle.faust_types.specs.Ranges.{IsDigest, IsSubmitFor}
-use Rattle.faust_server.proofs.Kept.{IsDigest-replicate}
+use Rattle.faust_types.proofs.Messages.{IsDigest-replicate}
 use Rattle.faust_types.specs.declared.message.Submit.{Submit}
 use Rattle.faust_types.specs.declared.operation.Kind.TheVariants.{Read}
 use Rattle.faust_server.proofs.server.tests.read.Goals as goal

@@ -1,6 +1,6 @@
 use Rattle.std.proofs.Common.{◌≡◌, ℕ, sym, subst, arith, replicate, Some}
 use Rattle.faust_types.specs.Ranges.{IsDigest, IsValue, IsSubmitFor}
-use Rattle.faust_server.proofs.Kept.{AreBytes-replicate, IsDigest-replicate}
+use Rattle.faust_types.proofs.Messages.{AreBytes-replicate, IsDigest-replicate}
 use Rattle.faust_types.specs.declared.message.Submit.{Submit}
 use Rattle.faust_types.specs.declared.operation.Kind.TheVariants.{Write}
 use Rattle.faust_server.proofs.server.tests.write.Goals as goal
