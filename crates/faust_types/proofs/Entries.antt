@@ -12,6 +12,10 @@ pub some_not_none : (m : Option (List ℕ)) (d : List ℕ) → m ≡ Some d → 
 some_not_none None d e none = absurd (none-some d e)
 some_not_none (Some x) d e none = absurd (true≢false none)
 
+-- each digest of a version of n clients has 32 bytes
+pub sized-at : (n : ℕ) (v : Vector) → IsVersionFor n v → (k : ℕ) → IsClient n k → IfSome (digest_at v k) IsDigest
+sized-at n v h k c = h.kept.sized k (record { from_one = c.from_one; to_n = omega (arith, c.to_n, h.count) })
+
 pub timestamp-with_entry : (v : Vector) (k t : ℕ) (d : List ℕ) → IsClient (clients_of v) k → timestamp_at (with_entry v k t d) k ≡ t
 timestamp-with_entry v k t d c = get_or-set_same v.timestamps (k - 1) t 0 (omega (arith, c.from_one, c.to_n))
 
@@ -60,12 +64,13 @@ in_range-with_entry n v k t d h c above below is_digest =
                 λ zero_time. subst (λ (m : Option (List ℕ)). IsNone m) (sym mark_same) (before.1 (sym time_same ∙ zero_time)),
               )
         ];
+        sized = λ j i. elim (cases_eq j k) [
+          | inl same ↦ subst (λ (x : ℕ). IfSome (digest_at (with_entry v k t d) x) IsDigest) (sym same)
+              (subst (λ (m : Option (List ℕ)). IfSome m IsDigest) (sym mark_here) is_digest)
+          | inr other ↦ subst (λ (m : Option (List ℕ)). IfSome m IsDigest)
+              (sym (digest-with_entry_other v k t d j c.from_one i.from_one other)) (h.kept.sized j (old j (new j i)))
+        ];
       };
-      sized = λ j i. elim (cases_eq j k) [
-        | inl same ↦ subst (λ (x : ℕ). IfSome (digest_at (with_entry v k t d) x) IsDigest) (sym same)
-            (subst (λ (m : Option (List ℕ)). IfSome m IsDigest) (sym mark_here) is_digest)
-        | inr other ↦ subst (λ (m : Option (List ℕ)). IfSome m IsDigest) (sym (digest-with_entry_other v k t d j c.from_one i.from_one other)) (h.sized j i)
-      ];
     }
 
 -- a version with an entry set is no initial one
@@ -89,6 +94,6 @@ in_range-initial n count =
         paired = marks ∙ sym sized;
         below = λ j i. omega (arith, zero-at-initial n j (in_n j i));
         absent = λ j i. (λ _. zero-at-initial n j (in_n j i), λ _. subst (λ (m : Option (List ℕ)). IsNone m) (sym (none_at j (in_n j i))) refl);
+        sized = λ j i. subst (λ (m : Option (List ℕ)). IfSome m IsDigest) (sym (none_at j (in_n j i))) tt;
       };
-      sized = λ j i. subst (λ (m : Option (List ℕ)). IfSome m IsDigest) (sym (none_at j i)) tt;
     }

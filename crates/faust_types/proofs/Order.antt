@@ -1,10 +1,12 @@
--- The tests on versions say what the order of versions says.
-use Rattle.std.proofs.Common.{◌≡◌, ◌↔◌, ℕ, ◌+◌, ◌-◌, ◌<◌, ◌≤◌, zero, suc, true, ◌==◌, ◌&&◌, ◌||◌, nat_lt, Option, Some, None, List, [], ◌∷◌, length, get_or, replicate, IsNone, refl, sym, ap, ◌∙◌, subst, inl, inr, arith}
-use Rattle.std.proofs.lemmas.Bool.{true≢false, and_parts, and_from, or_cases, or_left, or_right, ltb-true, lt-ltb, eqb-true, eq-eqb, cases_lt, cases_eq}
-use Rattle.std.proofs.lemmas.List.{get_or-replicate}
+-- The tests on versions say what the order of versions says, and it is a partial order.
+use Rattle.std.proofs.Common.{◌≡◌, ◌↔◌, ℕ, ◌+◌, ◌-◌, ◌<◌, ◌≤◌, zero, suc, true, false, Bool, cond, ◌==◌, ◌&&◌, ◌||◌, nat_lt, Option, Some, None, List, [], ◌∷◌, length, get_or, replicate, IsNone, refl, sym, ap, ◌∙◌, subst, inl, inr, arith}
+use Rattle.std.proofs.lemmas.Bool.{true≢false, cases_Bool, and_parts, and_from, or_cases, or_left, or_right, ltb-true, lt-ltb, eqb-true, eq-eqb, cases_lt, cases_eq}
+use Rattle.std.proofs.lemmas.List.{ext_get_or, get_or-replicate}
 use Rattle.std.proofs.lemmas.Slice.Eq.{bytes_eq-Decides}
 use Rattle.faust_types.specs.Clients.{IsClient}
-use Rattle.faust_types.specs.Versions.{Vector, IsVersion, IsAtMost, clients_of, timestamp_at, digest_at, initial, is_same_digest, is_entry_at_most, are_entries_at_most, is_at_most, are_timestamps_zero, is_initial}
+use Rattle.faust_types.specs.Versions.{Vector, IsVersion, IsAtMost, IsOrder, clients_of, timestamp_at, digest_at, initial, is_same_digest, is_entry_at_most, are_entries_at_most, is_at_most, are_timestamps_zero, is_initial, is_comparable, compared, compared_by}
+use Rattle.faust_types.specs.declared.version.Compared.{Compared}
+use Rattle.faust_types.specs.declared.version.Compared.TheVariants.{Less, Equal, Greater, Apart}
 
 pub same_digest-true : (a b : Option (List ℕ)) → is_same_digest a b ≡ true → a ≡ b
 same_digest-true None None h = refl
@@ -54,6 +56,88 @@ is_at_most-means v w = (
   },
   λ m. entries-from v w _ (λ k c. entry-from (timestamp_at v k) (timestamp_at w k) (digest_at v k) (digest_at w k) (m.timestamps k c) (m.digests k c)),
 )
+
+-- the same by a name that attributes can cite
+pub is_at_most_tells : (v w : Vector) → (is_at_most v w ≡ true) ↔ IsAtMost v w
+is_at_most_tells v w = is_at_most-means v w
+
+pub at_most_self : (v : Vector) → IsAtMost v v
+at_most_self v = record { timestamps = λ k c. omega arith; digests = λ k c same. refl }
+
+-- at most, along a third version
+pub at_most_along : (u v w : Vector) → clients_of u ≡ clients_of v → IsAtMost u v → IsAtMost v w → IsAtMost u w
+at_most_along u v w sized h i =
+    let in_v : (k : ℕ) → IsClient (clients_of u) k → IsClient (clients_of v) k =
+    λ k c. record { from_one = c.from_one; to_n = omega (arith, c.to_n, sized) } in
+    record {
+      timestamps = λ k c. omega (arith, h.timestamps k c, i.timestamps k (in_v k c));
+      digests = λ k c same.
+          let first : timestamp_at u k ≡ timestamp_at v k = omega (arith, h.timestamps k c, i.timestamps k (in_v k c), same) in
+          let second : timestamp_at v k ≡ timestamp_at w k = omega (arith, first, same) in
+          h.digests k c first ∙ i.digests k (in_v k c) second;
+    }
+
+-- at most both ways: the same version
+pub at_most_both : (v w : Vector) → IsVersion v → IsVersion w → clients_of v ≡ clients_of w
+    → IsAtMost v w → IsAtMost w v → v ≡ w
+at_most_both v w kept_v kept_w sized h i =
+    let client : (j : ℕ) → j < clients_of v → IsClient (clients_of v) (j + 1) = λ j lt. record { from_one = omega arith; to_n = omega (arith, lt) } in
+    let client_w : (j : ℕ) → j < clients_of v → IsClient (clients_of w) (j + 1) = λ j lt. record { from_one = omega arith; to_n = omega (arith, lt, sized) } in
+    let back : (j : ℕ) → (j + 1) - 1 ≡ j = λ j. omega arith in
+    let same_time : (j : ℕ) → j < clients_of v → timestamp_at v (j + 1) ≡ timestamp_at w (j + 1) =
+    λ j lt. omega (arith, h.timestamps (j + 1) (client j lt), i.timestamps (j + 1) (client_w j lt)) in
+    let times : v.timestamps ≡ w.timestamps = ext_get_or 0 v.timestamps w.timestamps sized
+    (λ j lt. subst (λ (x : ℕ). get_or v.timestamps x 0 ≡ get_or w.timestamps x 0) (back j) (same_time j lt)) in
+    let marks : v.digests ≡ w.digests = ext_get_or None v.digests w.digests (kept_v.paired ∙ sized ∙ sym kept_w.paired)
+    (λ j lt.
+    let within : j < clients_of v = omega (arith, lt, kept_v.paired) in
+    subst (λ (x : ℕ). get_or v.digests x None ≡ get_or w.digests x None) (back j)
+    (h.digests (j + 1) (client j within) (same_time j within))) in
+    ap (λ (ts : List ℕ). let x : Vector = record { timestamps = ts; digests = v.digests } in x) times
+    ∙ ap (λ (ds : List (Option (List ℕ))). let x : Vector = record { timestamps = w.timestamps; digests = ds } in x) marks
+
+-- the answer of comparing is the one that is right
+order_by : (v w : Vector) (a b : Bool) → is_at_most v w ≡ a → is_at_most w v ≡ b → IsOrder (compared_by a b) v w
+order_by v w true true h i = ((is_at_most-means v w).0 h, (is_at_most-means w v).0 i)
+order_by v w true false h i = ((is_at_most-means v w).0 h, λ m. true≢false (sym ((is_at_most-means w v).1 m) ∙ i))
+order_by v w false true h i = (λ m. true≢false (sym ((is_at_most-means v w).1 m) ∙ h), (is_at_most-means w v).0 i)
+order_by v w false false h i = (
+  λ m. true≢false (sym ((is_at_most-means v w).1 m) ∙ h),
+  λ m. true≢false (sym ((is_at_most-means w v).1 m) ∙ i),
+)
+
+pub compared_means : (v w : Vector) → IsOrder (compared v w) v w
+compared_means v w = order_by v w (is_at_most v w) (is_at_most w v) refl refl
+
+apart_by : (a b : Bool) → (compared_by a b ≡ Apart) ↔ ((a || b) ≡ false)
+apart_by true true = (λ h. absurd (cc), λ h. absurd (true≢false h))
+apart_by true false = (λ h. absurd (cc), λ h. absurd (true≢false h))
+apart_by false true = (λ h. absurd (cc), λ h. absurd (true≢false h))
+apart_by false false = (λ h. refl, λ h. refl)
+
+-- Apart and incomparable are the same
+pub apart_means : (v w : Vector) → (compared v w ≡ Apart) ↔ (is_comparable v w ≡ false)
+apart_means v w = apart_by (is_at_most v w) (is_at_most w v)
+
+or_turned : (a b : Bool) → (a || b) ≡ (b || a)
+or_turned true true = refl
+or_turned true false = refl
+or_turned false true = refl
+or_turned false false = refl
+
+-- whichever version stands first
+pub comparable_turned : (v w : Vector) → is_comparable v w ≡ is_comparable w v
+comparable_turned v w = or_turned (is_at_most v w) (is_at_most w v)
+
+pub apart_turned : (v w : Vector) → compared v w ≡ Apart → compared w v ≡ Apart
+apart_turned v w h = (apart_means w v).1 (comparable_turned w v ∙ (apart_means v w).0 h)
+
+pub comparable_self : (v : Vector) → is_comparable v v ≡ true
+comparable_self v = or_left _ _ ((is_at_most-means v v).1 (at_most_self v))
+
+-- what is at most another version is comparable with it
+pub comparable_below : (v w : Vector) → IsAtMost v w → is_comparable v w ≡ true
+comparable_below v w m = or_left _ _ ((is_at_most-means v w).1 m)
 
 pub zeros-true : (v : Vector) (n : ℕ) → are_timestamps_zero v n ≡ true → (k : ℕ) → IsClient n k → timestamp_at v k ≡ 0
 zeros-true v zero h k c = absurd (omega (arith, c.from_one, c.to_n))

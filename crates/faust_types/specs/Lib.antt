@@ -1,4 +1,5 @@
 pub mod Clients
+pub mod Bytes
 pub mod Versions
 pub mod Outcomes
 pub mod Ranges

@@ -1,8 +1,11 @@
--- Which values and messages are in range for n clients: those that have a spelling.
-use Rattle.std.specs.Prelude.{◌≡◌, ◌≢◌, ℕ, ◌^◌, ◌<◌, ◌≤◌, true, false, List, length, Option, IsNone, IfSome, IsSomeAnd, replicate, slice_index}
+-- Which configs and messages are in range: of messages for n clients those that have a spelling. Every promise on
+-- messages rests on these.
+use Rattle.std.specs.Prelude.{◌≡◌, ◌≢◌, ℕ, ◌^◌, ◌<◌, ◌≤◌, true, false, List, length, Option, IsNone, IfSome, IsSomeAnd, replicate}
 use Rattle.std.specs.List.{AllByRecursion}
-use Rattle.faust_types.specs.Clients.{IsClient}
-use Rattle.faust_types.specs.Versions.{Vector, IsVersion, clients_of, digest_at, is_initial}
+pub use Rattle.faust_types.specs.Bytes.{AreBytes, IsDigest, IsKey, IsValue}
+use Rattle.faust_types.specs.Clients.{IsClient, IsClientCount}
+use Rattle.faust_types.specs.Versions.{Vector, IsVersion, clients_of, is_initial}
+use Rattle.faust_types.specs.declared.config.Config.{Config}
 use Rattle.faust_types.specs.declared.operation.Kind.{Kind}
 use Rattle.faust_types.specs.declared.operation.Kind.TheVariants.{Write, Read}
 use Rattle.faust_types.specs.declared.message.Known.{Known}
@@ -18,30 +21,37 @@ use Rattle.faust_types.specs.declared.message.PeerMessage.{PeerMessage}
 use Rattle.faust_types.specs.declared.message.Message.{Message}
 use Rattle.faust_types.specs.declared.message.Message.TheVariants as messages
 
--- Each item is a byte.
-abbrev pub AreBytes : List ℕ → Type 0
-AreBytes bytes = (i : ℕ) → slice_index bytes i < 256
+-- The second version of the wire lets a COMMIT ride on the next SUBMIT.
+pub record IsWire (wire : ℕ) : Type 0 where
+  pub from_one : 1 ≤ wire
+  pub to_two : wire ≤ 2
 
--- 32 bytes, as a digest and a tag have.
-pub record IsDigest (bytes : List ℕ) : Type 0 where
-  pub sized : length bytes ≡ 32
-  pub bytes_each : AreBytes bytes
+-- A moment.
+abbrev pub IsMoment : ℕ → Type 0
+IsMoment m = m < 2 ^ 40
 
--- At most 4,096 bytes, as a value has.
-pub record IsValue (bytes : List ℕ) : Type 0 where
-  pub sized : length bytes ≤ 4096
-  pub bytes_each : AreBytes bytes
+-- A span of moments.
+pub record IsSpan (span : ℕ) : Type 0 where
+  pub from_one : 1 ≤ span
+  pub below : span < 2 ^ 40
+
+-- What the clients of a run may share.
+pub record IsConfig (config : Config) : Type 0 where
+  pub clients_count : IsClientCount config.clients
+  pub key_sized : IsKey config.key
+  pub delta_span : IsSpan config.delta
+  pub dummy_span : IsSpan config.dummy
+  pub wire_known : IsWire config.wire
 
 -- The number of an operation.
 pub record IsOperationNumber (t : ℕ) : Type 0 where
   pub from_one : 1 ≤ t
   pub below : t < 2 ^ 40
 
--- A version of n clients with digests of 32 bytes.
+-- A version of n clients.
 pub record IsVersionFor (n : ℕ) (v : Vector) : Type 0 where
   pub count : clients_of v ≡ n
   pub kept : IsVersion v
-  pub sized : (k : ℕ) → IsClient n k → IfSome (digest_at v k) IsDigest
 
 -- A version made by the given client; the initial version has maker 0 and a tag of zero bytes.
 pub record IsKnownBy (n maker : ℕ) (known : Known) : Type 0 where
@@ -79,18 +89,20 @@ abbrev pub IsValueOf : Kind → Option (List ℕ) → Type 0
 IsValueOf Write value = IsSomeAnd value IsValue
 IsValueOf Read value = IsNone value
 
+pub record IsCommitFor (n : ℕ) (commit : Commit) : Type 0 where
+  pub version_in_range : IsVersionFor n commit.version
+  pub not_initial : is_initial commit.version ≡ false
+  pub commit_tag_sized : IsDigest commit.commit_tag
+  pub proof_tag_sized : IsDigest commit.proof_tag
+
+-- A COMMIT that rides on it is in range too.
 pub record IsSubmitFor (n : ℕ) (submit : Submit) : Type 0 where
   pub register_in_range : IsClient n submit.register
   pub number : IsOperationNumber submit.t
   pub value_in_range : IsValueOf submit.kind submit.value
   pub submit_tag_sized : IsDigest submit.submit_tag
   pub data_tag_sized : IsDigest submit.data_tag
-
-pub record IsCommitFor (n : ℕ) (commit : Commit) : Type 0 where
-  pub version_in_range : IsVersionFor n commit.version
-  pub not_initial : is_initial commit.version ≡ false
-  pub commit_tag_sized : IsDigest commit.commit_tag
-  pub proof_tag_sized : IsDigest commit.proof_tag
+  pub commit_in_range : IfSome submit.commit (IsCommitFor n)
 
 -- The number of a check.
 pub record IsCheck (check : ℕ) : Type 0 where

@@ -1,6 +1,7 @@
--- Versions and their order.
-use Rattle.std.specs.Prelude.{◌≡◌, ℕ, ◌+◌, ◌-◌, ◌^◌, ◌<◌, ◌≤◌, ◌↔◌, ◌==◌, ◌&&◌, ◌||◌, zero, suc, Bool, true, false, cond, List, length, Option, Some, None, IsNone, replicate, slice_index, slice_index_or, slice_set, nat_lt}
+-- Versions and their order: what every promise on versions rests on.
+use Rattle.std.specs.Prelude.{◌≡◌, ℕ, ◌+◌, ◌-◌, ◌^◌, ◌<◌, ◌≤◌, ◌↔◌, ◌==◌, ◌&&◌, ◌||◌, zero, suc, Bool, true, false, cond, List, length, Option, Some, None, IsNone, IfSome, replicate, slice_index, slice_index_or, slice_set, nat_lt}
 use Rattle.std.specs.Str.{bytes_eq}
+use Rattle.faust_types.specs.Bytes.{IsDigest}
 use Rattle.faust_types.specs.Clients.{IsClientCount, IsClient}
 use Rattle.faust_types.specs.declared.version.Compared.{Compared}
 use Rattle.faust_types.specs.declared.version.Compared.TheVariants.{Less, Equal, Greater, Apart}
@@ -36,13 +37,14 @@ with_entry v k t d = record {
 abbrev pub stepped : Vector → ℕ → List ℕ → Vector
 stepped v k d = with_entry v k (timestamp_at v k + 1) d
 
--- What every version keeps: one digest place a timestamp, timestamps below 2 ^ 40, and no digest exactly at
--- timestamp 0.
+-- What every version keeps: one digest place a timestamp, timestamps below 2 ^ 40, no digest exactly at
+-- timestamp 0, and digests of 32 bytes.
 pub record IsVersion (v : Vector) : Type 0 where
   pub count : IsClientCount (clients_of v)
   pub paired : length v.digests ≡ clients_of v
   pub below : (k : ℕ) → IsClient (clients_of v) k → timestamp_at v k < 2 ^ 40
   pub absent : (k : ℕ) → IsClient (clients_of v) k → IsNone (digest_at v k) ↔ (timestamp_at v k ≡ 0)
+  pub sized : (k : ℕ) → IsClient (clients_of v) k → IfSome (digest_at v k) IsDigest
 
 -- The order of versions: no timestamp is greater, and where two are equal, so are the digests.
 pub record IsAtMost (v w : Vector) : Type 0 where
@@ -78,6 +80,10 @@ compared_by v_at_most_w w_at_most_v = cond v_at_most_w (cond w_at_most_v Equal L
 
 abbrev pub compared : Vector → Vector → Compared
 compared v w = compared_by (is_at_most v w) (is_at_most w v)
+
+-- Whether one of two versions is at most the other, which is to say that they aren't Apart.
+abbrev pub is_comparable : Vector → Vector → Bool
+is_comparable v w = is_at_most v w || is_at_most w v
 
 -- Whether each of the first k timestamps is 0.
 abbrev pub are_timestamps_zero : Vector → ℕ → Bool

@@ -6,6 +6,7 @@ ghost use Rattle.faust_types.specs.Spelling.{announced, peer_byte, peer_content,
 use crate::operation::Kind;
 use crate::out_of_memory::OutOfMemory;
 use crate::sequence::{Bytes, Sequence};
+use crate::spelling::{ABSENT, FAILURE, PROBE, VERSION};
 use crate::version::{Tag, Version};
 use std::alloc::Global;
 
@@ -50,7 +51,8 @@ pub struct ReadPart {
     pub mem: Option<Mem>,
 }
 
-/// An operation handed to the server: number `t` of its client. A write has a value, a read has none.
+/// An operation handed to the server: number `t` of its client. A write has a value, a read has none. Under
+/// version 2 of the wire the COMMIT of the operation before may ride on it.
 #[derive(Debug, Drop)]
 pub struct Submit {
     pub kind: Kind,
@@ -59,6 +61,7 @@ pub struct Submit {
     pub value: Option<Bytes>,
     pub submit_tag: Tag,
     pub data_tag: Tag,
+    pub commit: Option<Commit>,
 }
 
 /// The server's answer: the last committed version of client `c`, the operations pending since, the proofs, and
@@ -177,6 +180,10 @@ impl Submit {
     pub fn copy(&self) -> Result<Submit, OutOfMemory>
         ensures { IfOk result (λ copy. copy ≡ self.now) }
     {
+        let commit = match &self.commit {
+            Some(commit) => Some(commit.copy()?),
+            None => None,
+        };
         Ok(Submit {
             kind: self.kind,
             register: self.register,
@@ -184,6 +191,7 @@ impl Submit {
             value: copy_of_value(&self.value)?,
             submit_tag: self.submit_tag,
             data_tag: self.data_tag,
+            commit,
         })
     }
 }
@@ -273,9 +281,9 @@ fn byte_of_peer(peer: &Peer) -> u8
     ensures { result ≡ peer_byte peer.now }
 {
     match peer {
-        Peer::Probe => 4,
-        Peer::Version(_) => 5,
-        Peer::Failure(_) => 6,
+        Peer::Probe => PROBE,
+        Peer::Version(_) => VERSION,
+        Peer::Failure(_) => FAILURE,
     }
 }
 
@@ -296,7 +304,7 @@ fn put_announced(known: &Known, out: &mut Bytes) -> Result<(), OutOfMemory>
     ensures err { OnErr result (take (length out.old) out.new ≡ out.old) }
 {
     if known.version.is_initial() {
-        return out.push(0);
+        return out.push(ABSENT);
     }
     out.push(known.maker)?;
     known.version.put(out)?;

@@ -1,4 +1,4 @@
-ghost use Rattle.std.specs.Prelude.{◌≡◌, ℕ, List, [], ◌∷◌, ◌++◌, ◌↔◌, length, take, IsTrue, OnOk, OnErr, IfOk};
+ghost use Rattle.std.specs.Prelude.{◌≡◌, ℕ, ◌<◌, List, [], ◌∷◌, ◌++◌, ◌↔◌, length, take, slice_index_or, slice_set, option_to_list, IsTrue, IsNone, OnOk, OnErr, IfOk};
 
 use crate::out_of_memory::OutOfMemory;
 use std::alloc::Global;
@@ -72,12 +72,36 @@ impl<T: Drop> Sequence<T> {
         self.items.is_empty()
     }
 
-    /// Makes room for `additional` more items, so that adding these takes no further memory.
+    /// Makes room for `additional` more items at once, so that the list isn't copied while these are added.
     pub fn reserve(&mut self, additional: usize) -> Result<(), OutOfMemory>
         ensures { self.new ≡ self.old }
     {
         self.items.reserve(additional)?;
         Ok(())
+    }
+
+    /// The item at a place, counted from 0.
+    pub fn at(&self, place: usize) -> &T
+        requires { place < length self.now }
+        ensures { (d : T) → result.now ≡ slice_index_or self.now place d }
+    {
+        &self.items[place]
+    }
+
+    /// Puts an item in a place, counted from 0, of which there is one already.
+    pub fn set(&mut self, place: usize, item: T)
+        requires { place < length self.old }
+        ensures { self.new ≡ slice_set self.old place item }
+    {
+        self.items[place] = item;
+    }
+
+    /// Takes the last item out: none exactly where there is no item.
+    pub fn pop(&mut self) -> Option<T>
+        ensures taken { self.old ≡ self.new ++ option_to_list result }
+        ensures none { IsNone result ↔ (self.old ≡ []) }
+    {
+        self.items.pop()
     }
 
     /// Puts an item at the end.

@@ -98,6 +98,10 @@ fn lists_grow_and_are_cut(rt: HostRuntime) -> Result<(), Fail> {
     list.append(&[2, 3])?;
     list.truncate(2);
     assert_eq!(rt; list.len(), 2);
+    list.set(1, 4);
+    assert_eq!(rt; *list.at(1), 4);
+    assert_eq!(rt; list.pop(), Some(4));
+    list.push(2)?;
     assert_eq!(rt; list.copy()?.into_vec().as_slice(), [1, 2].as_slice());
     assert_eq!(rt;
         Bytes::from_vec(vec![in rt.alloc(); 5]?).as_slice(),
@@ -165,14 +169,15 @@ fn other_values_are_copied(rt: HostRuntime) -> Result<(), Fail> {
         value: None,
         submit_tag: [1; 32],
         data_tag: [2; 32],
+        commit: Some(Commit {
+            version: version(rt.alloc(), (1, 7), (0, 0))?,
+            commit_tag: [1; 32],
+            proof_tag: [2; 32],
+        }),
     };
-    assert_eq!(rt; submit.copy()?.t, 9);
-    let commit = Commit {
-        version: version(rt.alloc(), (1, 7), (0, 0))?,
-        commit_tag: [1; 32],
-        proof_tag: [2; 32],
-    };
-    assert_eq!(rt; commit.copy()?.proof_tag, [2; 32]);
+    let copied = submit.copy()?;
+    assert_eq!(rt; copied.t, 9);
+    assert_eq!(rt; copied.commit.map(|commit| commit.proof_tag), Some([2; 32]));
     let message = PeerMessage {
         from: 1,
         to: 2,
@@ -196,7 +201,10 @@ fn other_values_are_copied(rt: HostRuntime) -> Result<(), Fail> {
         key: Bytes::from_slice(rt.alloc(), &[1, 2])?,
         delta: 1,
         dummy: 2,
+        wire: 2,
     };
-    assert_eq!(rt; config.copy()?.key.as_slice(), [1, 2].as_slice());
+    let copied = config.copy()?;
+    assert_eq!(rt; copied.key.as_slice(), [1, 2].as_slice());
+    assert_eq!(rt; copied.wire, 2);
     Ok(())
 }

@@ -1,10 +1,11 @@
-ghost use Rattle.std.specs.Prelude.{◌≡◌, ℕ, ◌+◌, ◌^◌, ◌<◌, ◌≤◌, ◌++◌, ◌↔◌, IsTrue, IfOk, OnOk, OnErr, take, length, flat_map};
+ghost use Rattle.std.specs.Prelude.{◌≡◌, ℕ, ◌+◌, ◌^◌, ◌<◌, ◌≤◌, ◌++◌, ◌↔◌, IsTrue, IsNone, IfOk, OnOk, OnErr, take, length, flat_map};
 ghost use Rattle.faust_types.specs.Clients.{IsClientCount, IsClient};
-ghost use Rattle.faust_types.specs.Versions.{Vector, IsVersion, IsAtMost, IsOrder, clients_of, timestamp_at, digest_at, initial, with_entry, stepped, is_at_most, compared, is_initial, is_same_digest, is_entry_at_most};
+ghost use Rattle.faust_types.specs.Versions.{Vector, IsVersion, IsAtMost, IsOrder, clients_of, timestamp_at, digest_at, initial, with_entry, stepped, is_at_most, compared, is_comparable, is_initial, is_same_digest, is_entry_at_most};
 ghost use Rattle.faust_types.specs.Spelling.{be64, optional, version_bytes};
 
 use crate::out_of_memory::OutOfMemory;
 use crate::sequence::Bytes;
+use crate::spelling::put_optional;
 use std::alloc::Global;
 use std::marker::Model;
 
@@ -72,7 +73,8 @@ impl Version {
     /// The digest of client k: none exactly where its timestamp is 0.
     pub fn digest(&self, k: u8) -> Option<Digest>
         requires { IsClient (clients_of self.now) k }
-        ensures { result ≡ digest_at self.now k }
+        ensures value { result ≡ digest_at self.now k }
+        ensures absent { IsNone result ↔ (timestamp_at self.now k ≡ 0) }
     {
         self.digests[usize::from(k) - 1]
     }
@@ -134,6 +136,14 @@ impl Version {
             (false, true) => Compared::Greater,
             (false, false) => Compared::Apart,
         }
+    }
+
+    /// Whether one of both versions is at most the other.
+    pub fn is_comparable(&self, other: &Version) -> bool
+        requires { clients_of self.now ≡ clients_of other.now }
+        ensures { result ≡ is_comparable self.now other.now }
+    {
+        self.is_at_most(other) || other.is_at_most(self)
     }
 
     /// Whether this is the initial version.
@@ -213,17 +223,4 @@ fn put_digests(digests: &[Option<Digest>], out: &mut Bytes) -> Result<(), OutOfM
         put_optional(*digest, out)?;
     }
     Ok(())
-}
-
-fn put_optional(digest: Option<Digest>, out: &mut Bytes) -> Result<(), OutOfMemory>
-    ensures ok { OnOk result (out.new ≡ out.old ++ optional digest) }
-    ensures err { OnErr result (take (length out.old) out.new ≡ out.old) }
-{
-    match digest {
-        None => out.push(0),
-        Some(digest) => {
-            out.push(1)?;
-            out.append(&digest)
-        }
-    }
 }
