@@ -33,7 +33,8 @@ known_text known = version_bytes known.version ++ known.tag
 abbrev known_of : ℕ → Vector → List ℕ → Known
 known_of maker version tag = record { maker = maker; version = version; tag = tag }
 
-known_takes : (n : ℕ) → IsClientCount n → (maker : ℕ) (bytes : List ℕ) (x : Known × List ℕ) → AreBytes bytes → next_known n maker bytes ≡ Some x → IsRead Known known_text (IsSigned n maker) bytes x
+known_takes : (n : ℕ) → IsClientCount n → (maker : ℕ) (bytes : List ℕ) (x : Known × List ℕ) → AreBytes bytes
+    → next_known n maker bytes ≡ Some x → IsRead Known known_text (IsSigned n maker) bytes x
 unfolding next_known
 known_takes n count maker bytes x fits e =
     bind_ok (next_version n bytes) _ x e (λ a a-is a-then.
@@ -44,31 +45,42 @@ known_takes n count maker bytes x fits e =
     subst (IsRead Known known_text (IsSigned n maker) bytes) (same_Some _ _ g.1) (record {
       taken = takes_then version.taken tag.taken;
       fits = record {
-        known_by = record { version_in_range = version.fits; tag_sized = tag.fits; unsigned = λ h. absurd (both_ways _ g.0 h); signed = λ h. refl };
+        known_by = record {
+          version_in_range = version.fits;
+          tag_sized = tag.fits;
+          unsigned = λ h. absurd (both_ways _ g.0 h);
+          signed = λ h. refl;
+        };
         not_initial = g.0;
       };
     })))
 
-known_again : (n : ℕ) → IsClientCount n → (maker : ℕ) (known : Known) (rest : List ℕ) → IsSigned n maker known → next_known n maker (known_text known ++ rest) ≡ Some (known, rest)
+known_again : (n : ℕ) → IsClientCount n → (maker : ℕ) (known : Known) (rest : List ℕ) → IsSigned n maker known
+    → next_known n maker (known_text known ++ rest) ≡ Some (known, rest)
 unfolding next_known
 known_again n count maker known rest fits =
-    let made : known_of maker known.version known.tag ≡ known = ap (λ (m : ℕ). known_of m known.version known.tag) (sym (fits.known_by.signed fits.not_initial)) in
+    let made : known_of maker known.version known.tag ≡ known =
+    ap (λ (m : ℕ). known_of m known.version known.tag) (sym (fits.known_by.signed fits.not_initial)) in
     ap (next_known n maker) (append_assoc (version_bytes known.version) known.tag rest)
     ∙ bind_some _ _ _ _ ((version_reader n count).again known.version (known.tag ++ rest) fits.known_by.version_in_range)
-    (bind_some _ _ _ _ (tag_reader.again known.tag rest fits.known_by.tag_sized) (rw fits.not_initial (ap (λ (k : Known). Some (k, rest)) made)))
+    (bind_some _ _ _ _ (tag_reader.again known.tag rest fits.known_by.tag_sized)
+    (rw fits.not_initial (ap (λ (k : Known). Some (k, rest)) made)))
 
 pub known_reader : (n : ℕ) → IsClientCount n → (maker : ℕ) → IsReader Known (next_known n maker) known_text (IsSigned n maker)
 known_reader n count maker = record { takes = known_takes n count maker; again = known_again n count maker }
 
 -- a spelling that is one byte for the initial version
-cond_text : (known : Known) (b : Bool) (x y : List ℕ) → is_initial known.version ≡ b → cond (is_initial known.version) x y ≡ cond b x y
+cond_text : (known : Known) (b : Bool) (x y : List ℕ) → is_initial known.version ≡ b
+    → cond (is_initial known.version) x y ≡ cond b x y
 cond_text known b x y e = ap (λ (c : Bool). cond c x y) e
 
-signed_takes : (n : ℕ) → IsClientCount n → (maker : ℕ) (bytes : List ℕ) (x : Known × List ℕ) → AreBytes bytes → next_signed n maker bytes ≡ Some x → IsRead Known signed_bytes (IsKnownBy n maker) bytes x
+signed_takes : (n : ℕ) → IsClientCount n → (maker : ℕ) (bytes : List ℕ) (x : Known × List ℕ) → AreBytes bytes
+    → next_signed n maker bytes ≡ Some x → IsRead Known signed_bytes (IsKnownBy n maker) bytes x
 unfolding next_signed next_flag signed_bytes
 signed_takes n count maker [] x fits e = absurd cc
 signed_takes n count maker (zero ∷ bytes) x fits e =
-    let text : 0 ∷ [] ≡ signed_bytes (unmade n) = sym (cond_text (unmade n) true (0 ∷ []) (1 ∷ known_text (unmade n)) (is_initial-initial n count)) in
+    let text : 0 ∷ [] ≡ signed_bytes (unmade n) =
+    sym (cond_text (unmade n) true (0 ∷ []) (1 ∷ known_text (unmade n)) (is_initial-initial n count)) in
     subst (IsRead Known signed_bytes (IsKnownBy n maker) (0 ∷ bytes)) (same_Some _ _ e) (record {
       taken = record { parts = ap (λ (t : List ℕ). t ++ bytes) text; rest_bytes = AreBytes-rest 0 bytes fits };
       fits = IsKnownBy-unmade n maker count;
@@ -77,53 +89,81 @@ signed_takes n count maker (suc zero ∷ bytes) x fits e =
     let r = known_takes n count maker bytes x (AreBytes-rest 1 bytes fits) e in
     let text : 1 ∷ known_text x.0 ≡ signed_bytes x.0 = sym (cond_text x.0 false (0 ∷ []) (1 ∷ known_text x.0) r.fits.not_initial) in
     record {
-      taken = record { parts = ap (λ (t : List ℕ). 1 ∷ t) r.taken.parts ∙ ap (λ (t : List ℕ). t ++ x.1) text; rest_bytes = r.taken.rest_bytes };
+      taken = record {
+        parts = ap (λ (t : List ℕ). 1 ∷ t) r.taken.parts
+            ∙ ap (λ (t : List ℕ). t ++ x.1) text;
+        rest_bytes = r.taken.rest_bytes;
+      };
       fits = r.fits.known_by;
     }
 signed_takes n count maker (suc (suc b) ∷ bytes) x fits e = absurd cc
 
-signed_again : (n : ℕ) → IsClientCount n → (maker : ℕ) (known : Known) (rest : List ℕ) → IsKnownBy n maker known → next_signed n maker (signed_bytes known ++ rest) ≡ Some (known, rest)
+signed_again : (n : ℕ) → IsClientCount n → (maker : ℕ) (known : Known) (rest : List ℕ) → IsKnownBy n maker known
+    → next_signed n maker (signed_bytes known ++ rest) ≡ Some (known, rest)
 unfolding next_signed next_flag signed_bytes
 signed_again n count maker known rest fits =
     elim (cases_Bool (is_initial known.version)) [
-      | inl h ↦ ap (λ (t : List ℕ). next_signed n maker (t ++ rest)) (cond_text known true (0 ∷ []) (1 ∷ known_text known) h) ∙ ap (λ (k : Known). Some (k, rest)) (sym (unmade-only n maker known fits h))
-      | inr h ↦ ap (λ (t : List ℕ). next_signed n maker (t ++ rest)) (cond_text known false (0 ∷ []) (1 ∷ known_text known) h) ∙ known_again n count maker known rest (record { known_by = fits; not_initial = h })
+      | inl h ↦
+          ap (λ (t : List ℕ). next_signed n maker (t ++ rest)) (cond_text known true (0 ∷ []) (1 ∷ known_text known) h)
+          ∙ ap (λ (k : Known). Some (k, rest)) (sym (unmade-only n maker known fits h))
+      | inr h ↦
+          ap (λ (t : List ℕ). next_signed n maker (t ++ rest)) (cond_text known false (0 ∷ []) (1 ∷ known_text known) h)
+          ∙ known_again n count maker known rest (record { known_by = fits; not_initial = h })
     ]
 
-pub signed_reader : (n : ℕ) → IsClientCount n → (maker : ℕ) → IsReader Known (next_signed n maker) signed_bytes (IsKnownBy n maker)
+pub signed_reader : (n : ℕ) → IsClientCount n → (maker : ℕ)
+    → IsReader Known (next_signed n maker) signed_bytes (IsKnownBy n maker)
 signed_reader n count maker = record { takes = signed_takes n count maker; again = signed_again n count maker }
 
-announced_takes : (n : ℕ) → IsClientCount n → (bytes : List ℕ) (x : Known × List ℕ) → AreBytes bytes → next_announced n bytes ≡ Some x → IsRead Known announced (IsAnnouncedFor n) bytes x
+announced_takes : (n : ℕ) → IsClientCount n → (bytes : List ℕ) (x : Known × List ℕ) → AreBytes bytes
+    → next_announced n bytes ≡ Some x → IsRead Known announced (IsAnnouncedFor n) bytes x
 unfolding next_announced announced
 announced_takes n count [] x fits e = absurd cc
 announced_takes n count (k ∷ bytes) x fits e =
     elim (chosen (k == 0) _ _ _ e) [
       | inl w ↦
-          let text : k ∷ [] ≡ announced (unmade n) = ap (λ (m : ℕ). m ∷ []) (eqb-true k 0 w.0) ∙ sym (cond_text (unmade n) true (0 ∷ []) (0 ∷ known_text (unmade n)) (is_initial-initial n count)) in
+          let text : k ∷ [] ≡ announced (unmade n) =
+          ap (λ (m : ℕ). m ∷ []) (eqb-true k 0 w.0)
+          ∙ sym (cond_text (unmade n) true (0 ∷ []) (0 ∷ known_text (unmade n)) (is_initial-initial n count)) in
           subst (IsRead Known announced (IsAnnouncedFor n) (k ∷ bytes)) (same_Some _ _ w.1) (record {
             taken = record { parts = ap (λ (t : List ℕ). t ++ bytes) text; rest_bytes = AreBytes-rest k bytes fits };
-            fits = record { known_by = IsKnownBy-unmade n 0 count; maker_in_range = λ h. absurd (both_ways _ h (is_initial-initial n count)) };
+            fits = record {
+              known_by = IsKnownBy-unmade n 0 count;
+              maker_in_range = λ h. absurd (both_ways _ h (is_initial-initial n count));
+            };
           })
       | inr w ↦
           let g = unless_ok _ _ _ w.1 in
           let r = known_takes n count k bytes x (AreBytes-rest k bytes fits) g.1 in
           let maker_is : x.0.maker ≡ k = r.fits.known_by.signed r.fits.not_initial in
-          let text : k ∷ known_text x.0 ≡ announced x.0 = ap (λ (m : ℕ). m ∷ known_text x.0) (sym maker_is) ∙ sym (cond_text x.0 false (0 ∷ []) (x.0.maker ∷ known_text x.0) r.fits.not_initial) in
+          let text : k ∷ known_text x.0 ≡ announced x.0 =
+          ap (λ (m : ℕ). m ∷ known_text x.0) (sym maker_is)
+          ∙ sym (cond_text x.0 false (0 ∷ []) (x.0.maker ∷ known_text x.0) r.fits.not_initial) in
           let c : IsClient n k = record { from_one = one_or_more k (eqb-false k 0 w.0); to_n = ltb-false n k g.0 } in
           record {
-            taken = record { parts = ap (λ (t : List ℕ). k ∷ t) r.taken.parts ∙ ap (λ (t : List ℕ). t ++ x.1) text; rest_bytes = r.taken.rest_bytes };
-            fits = record { known_by = subst (λ (m : ℕ). IsKnownBy n m x.0) (sym maker_is) r.fits.known_by; maker_in_range = λ h. subst (IsClient n) (sym maker_is) c };
+            taken = record {
+              parts = ap (λ (t : List ℕ). k ∷ t) r.taken.parts
+                  ∙ ap (λ (t : List ℕ). t ++ x.1) text;
+              rest_bytes = r.taken.rest_bytes;
+            };
+            fits = record {
+              known_by = subst (λ (m : ℕ). IsKnownBy n m x.0) (sym maker_is) r.fits.known_by;
+              maker_in_range = λ h. subst (IsClient n) (sym maker_is) c;
+            };
           }
     ]
   where
     one_or_more : (k : ℕ) → (k ≡ 0 → ⊥) → 1 ≤ k
     one_or_more k ne = omega (arith, ne)
 
-announced_again : (n : ℕ) → IsClientCount n → (known : Known) (rest : List ℕ) → IsAnnouncedFor n known → next_announced n (announced known ++ rest) ≡ Some (known, rest)
+announced_again : (n : ℕ) → IsClientCount n → (known : Known) (rest : List ℕ) → IsAnnouncedFor n known
+    → next_announced n (announced known ++ rest) ≡ Some (known, rest)
 unfolding next_announced announced
 announced_again n count known rest fits =
     elim (cases_Bool (is_initial known.version)) [
-      | inl h ↦ ap (λ (t : List ℕ). next_announced n (t ++ rest)) (cond_text known true (0 ∷ []) (known.maker ∷ known_text known) h) ∙ ap (λ (k : Known). Some (k, rest)) (sym (unmade-only n known.maker known fits.known_by h))
+      | inl h ↦
+          ap (λ (t : List ℕ). next_announced n (t ++ rest)) (cond_text known true (0 ∷ []) (known.maker ∷ known_text known) h)
+          ∙ ap (λ (k : Known). Some (k, rest)) (sym (unmade-only n known.maker known fits.known_by h))
       | inr h ↦
           let c = fits.maker_in_range h in
           let positive : (known.maker == 0) ≡ false = ne_eqb known.maker 0 (λ q. absurd (omega (arith, c.from_one, q))) in
@@ -137,7 +177,8 @@ announced_reader n count = record { takes = announced_takes n count; again = ann
 
 -- ---- tuples
 
-tuple_takes : (n : ℕ) (bytes : List ℕ) (x : Tuple × List ℕ) → AreBytes bytes → next_tuple n bytes ≡ Some x → IsRead Tuple tuple_bytes (IsTupleFor n) bytes x
+tuple_takes : (n : ℕ) (bytes : List ℕ) (x : Tuple × List ℕ) → AreBytes bytes → next_tuple n bytes ≡ Some x
+    → IsRead Tuple tuple_bytes (IsTupleFor n) bytes x
 unfolding next_tuple
 tuple_takes n bytes x fits e =
     bind_ok (next_up_to n bytes) _ x e (λ a a-is a-then.
@@ -172,7 +213,8 @@ pub record ArePending (n : ℕ) (tuples : List Tuple) : Type 0 where
 abbrev pub pending_text : List Tuple → List ℕ
 pending_text tuples = length tuples ∷ flat_map tuple_bytes tuples
 
-pending_takes : (n : ℕ) (bytes : List ℕ) (x : List Tuple × List ℕ) → AreBytes bytes → next_pending n bytes ≡ Some x → IsRead (List Tuple) pending_text (ArePending n) bytes x
+pending_takes : (n : ℕ) (bytes : List ℕ) (x : List Tuple × List ℕ) → AreBytes bytes → next_pending n bytes ≡ Some x
+    → IsRead (List Tuple) pending_text (ArePending n) bytes x
 unfolding next_pending
 pending_takes n [] x fits e = absurd cc
 pending_takes n (k ∷ bytes) x fits e =
@@ -180,15 +222,21 @@ pending_takes n (k ∷ bytes) x fits e =
     let few : k ≤ 31 = ltb-false 31 k g.0 in
     let r = (items_reader (next_tuple n) tuple_bytes (IsTupleFor n) (tuple_reader n) k).takes bytes x (AreBytes-rest k bytes fits) g.1 in
     record {
-      taken = record { parts = ap (λ (t : List ℕ). k ∷ t) r.taken.parts ∙ ap (λ (m : ℕ). m ∷ (flat_map tuple_bytes x.0 ++ x.1)) (sym r.fits.counted); rest_bytes = r.taken.rest_bytes };
+      taken = record {
+        parts = ap (λ (t : List ℕ). k ∷ t) r.taken.parts
+            ∙ ap (λ (m : ℕ). m ∷ (flat_map tuple_bytes x.0 ++ x.1)) (sym r.fits.counted);
+        rest_bytes = r.taken.rest_bytes;
+      };
       fits = record { few = omega (arith, few, r.fits.counted); in_range = r.fits.fit };
     }
 
-pending_again : (n : ℕ) (tuples : List Tuple) (rest : List ℕ) → ArePending n tuples → next_pending n (pending_text tuples ++ rest) ≡ Some (tuples, rest)
+pending_again : (n : ℕ) (tuples : List Tuple) (rest : List ℕ) → ArePending n tuples
+    → next_pending n (pending_text tuples ++ rest) ≡ Some (tuples, rest)
 unfolding next_pending
 pending_again n tuples rest fits =
     let few : nat_lt 31 (length tuples) ≡ false = le-ltb 31 (length tuples) fits.few in
-    rw few ((items_reader (next_tuple n) tuple_bytes (IsTupleFor n) (tuple_reader n) (length tuples)).again tuples rest (record { counted = refl; fit = fits.in_range }))
+    rw few ((items_reader (next_tuple n) tuple_bytes (IsTupleFor n) (tuple_reader n) (length tuples)).again tuples rest
+    (record { counted = refl; fit = fits.in_range }))
 
 pub pending_reader : (n : ℕ) → IsReader (List Tuple) (next_pending n) pending_text (ArePending n)
 pending_reader n = record { takes = pending_takes n; again = pending_again n }
@@ -232,7 +280,8 @@ memory_reader = optionally_reader next_mem mem_text IsMem memory_bytes mem_reade
 abbrev part_text : ReadPart → List ℕ
 part_text part = part.register ∷ (signed_bytes part.version ++ memory_bytes part.mem)
 
-part_takes : (n : ℕ) → IsClientCount n → (bytes : List ℕ) (x : ReadPart × List ℕ) → AreBytes bytes → next_read_part n bytes ≡ Some x → IsRead ReadPart part_text (IsReadPartFor n) bytes x
+part_takes : (n : ℕ) → IsClientCount n → (bytes : List ℕ) (x : ReadPart × List ℕ) → AreBytes bytes
+    → next_read_part n bytes ≡ Some x → IsRead ReadPart part_text (IsReadPartFor n) bytes x
 unfolding next_read_part
 part_takes n count bytes x fits e =
     bind_ok (next_up_to n bytes) _ x e (λ a a-is a-then.
@@ -246,17 +295,22 @@ part_takes n count bytes x fits e =
       fits = record { register_in_range = register.fits; version_known = version.fits; mem_in_range = mem.fits };
     }))))
 
-part_again : (n : ℕ) → IsClientCount n → (part : ReadPart) (rest : List ℕ) → IsReadPartFor n part → next_read_part n (part_text part ++ rest) ≡ Some (part, rest)
+part_again : (n : ℕ) → IsClientCount n → (part : ReadPart) (rest : List ℕ) → IsReadPartFor n part
+    → next_read_part n (part_text part ++ rest) ≡ Some (part, rest)
 unfolding next_read_part
 part_again n count part rest fits =
-    let regrouped : part_text part ++ rest ≡ part.register ∷ (signed_bytes part.version ++ (memory_bytes part.mem ++ rest)) = ap (λ (t : List ℕ). part.register ∷ t) (append_assoc (signed_bytes part.version) (memory_bytes part.mem) rest) in
+    let regrouped : part_text part ++ rest ≡ part.register ∷ (signed_bytes part.version ++ (memory_bytes part.mem ++ rest)) =
+    ap (λ (t : List ℕ). part.register ∷ t) (append_assoc (signed_bytes part.version) (memory_bytes part.mem) rest) in
     ap (next_read_part n) regrouped
-    ∙ bind_some _ _ _ _ ((client_reader n).again part.register (signed_bytes part.version ++ (memory_bytes part.mem ++ rest)) fits.register_in_range)
+    ∙ bind_some _ _ _ _ ((client_reader n).again part.register
+    (signed_bytes part.version ++ (memory_bytes part.mem ++ rest)) fits.register_in_range)
     (bind_some _ _ _ _ ((signed_reader n count part.register).again part.version (memory_bytes part.mem ++ rest) fits.version_known)
     (bind_some _ _ _ _ (memory_reader.again part.mem rest fits.mem_in_range) refl))
 
 part_reader : (n : ℕ) → IsClientCount n → IsReader ReadPart (next_read_part n) part_text (IsReadPartFor n)
 part_reader n count = record { takes = part_takes n count; again = part_again n count }
 
-pub read_part_reader : (n : ℕ) → IsClientCount n → IsReader (Option ReadPart) (λ bytes. optionally (next_read_part n) bytes) read_part_bytes (λ o. IfSome o (IsReadPartFor n))
-read_part_reader n count = optionally_reader (next_read_part n) part_text (IsReadPartFor n) read_part_bytes (part_reader n count) refl (λ x. refl)
+pub read_part_reader : (n : ℕ) → IsClientCount n
+    → IsReader (Option ReadPart) (λ bytes. optionally (next_read_part n) bytes) read_part_bytes (λ o. IfSome o (IsReadPartFor n))
+read_part_reader n count =
+    optionally_reader (next_read_part n) part_text (IsReadPartFor n) read_part_bytes (part_reader n count) refl (λ x. refl)

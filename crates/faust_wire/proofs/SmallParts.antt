@@ -20,7 +20,8 @@ pub record IsCut (len : ℕ) (bytes : List ℕ) (x : List ℕ × List ℕ) : Typ
   pub sized : length x.0 ≡ len
   pub front_bytes : AreBytes x.0
 
-pub bytes_take : (len : ℕ) (bytes : List ℕ) (x : List ℕ × List ℕ) → AreBytes bytes → next_bytes len bytes ≡ Some x → IsCut len bytes x
+pub bytes_take : (len : ℕ) (bytes : List ℕ) (x : List ℕ × List ℕ) → AreBytes bytes → next_bytes len bytes ≡ Some x
+    → IsCut len bytes x
 unfolding next_bytes
 bytes_take len bytes x fits e =
     let g = unless_ok _ _ _ e in
@@ -39,7 +40,8 @@ bytes_again front rest len sized =
 
 pub tag_reader : IsReader (List ℕ) (λ bytes. next_tag bytes) (λ tag. tag) IsDigest
 tag_reader = record {
-  takes = λ bytes x fits e. let cut = bytes_take 32 bytes x fits e in record { taken = cut.taken; fits = record { sized = cut.sized; bytes_each = cut.front_bytes } };
+  takes = λ bytes x fits e. let cut = bytes_take 32 bytes x fits e in record
+      { taken = cut.taken; fits = record { sized = cut.sized; bytes_each = cut.front_bytes } };
   again = λ tag rest fits. bytes_again tag rest 32 fits.sized;
 }
 
@@ -49,7 +51,8 @@ optional_reader = optionally_reader (λ bytes. next_tag bytes) (λ tag. tag) IsD
 
 -- ---- single bytes
 
-up_to_takes : (most : ℕ) (bytes : List ℕ) (x : ℕ × List ℕ) → AreBytes bytes → next_up_to most bytes ≡ Some x → IsRead ℕ (λ k. k ∷ []) (IsClient most) bytes x
+up_to_takes : (most : ℕ) (bytes : List ℕ) (x : ℕ × List ℕ) → AreBytes bytes → next_up_to most bytes ≡ Some x
+    → IsRead ℕ (λ k. k ∷ []) (IsClient most) bytes x
 unfolding next_up_to
 up_to_takes most [] x fits e = absurd cc
 up_to_takes most (k ∷ bytes) x fits e =
@@ -65,17 +68,22 @@ up_to_takes most (k ∷ bytes) x fits e =
 up_to_again : (most k : ℕ) (rest : List ℕ) → IsClient most k → next_up_to most (k ∷ rest) ≡ Some (k, rest)
 unfolding next_up_to
 up_to_again most k rest c =
-    let test : ((k == 0) || nat_lt most k) ≡ false = or_from _ _ (ne_eqb k 0 (λ q. absurd (omega (arith, c.from_one, q)))) (le-ltb most k c.to_n) in
+    let test : ((k == 0) || nat_lt most k) ≡ false =
+    or_from _ _ (ne_eqb k 0 (λ q. absurd (omega (arith, c.from_one, q)))) (le-ltb most k c.to_n) in
     rw test refl
 
 pub client_reader : (n : ℕ) → IsReader ℕ (next_up_to n) (λ k. k ∷ []) (IsClient n)
 client_reader n = record { takes = up_to_takes n; again = up_to_again n }
 
-kind_is : (kind : Kind) (k : ℕ) (bytes : List ℕ) (x : Kind × List ℕ) → k ≡ kind_byte kind → AreBytes bytes → ◌≡◌ {A = Kind × List ℕ} (kind, bytes) x → IsRead Kind (λ kind. kind_byte kind ∷ []) (λ kind. Unit {0}) (k ∷ bytes) x
+kind_is : (kind : Kind) (k : ℕ) (bytes : List ℕ) (x : Kind × List ℕ) → k ≡ kind_byte kind → AreBytes bytes
+    → ◌≡◌ {A = Kind × List ℕ} (kind, bytes) x
+    → IsRead Kind (λ kind. kind_byte kind ∷ []) (λ kind. Unit {0}) (k ∷ bytes) x
 kind_is kind k bytes x same fits e =
-    subst (IsRead Kind (λ kind. kind_byte kind ∷ []) (λ kind. Unit {0}) (k ∷ bytes)) e (record { taken = record { parts = ap (λ (b : ℕ). b ∷ bytes) same; rest_bytes = fits }; fits = tt })
+    subst (IsRead Kind (λ kind. kind_byte kind ∷ []) (λ kind. Unit {0}) (k ∷ bytes)) e
+    (record { taken = record { parts = ap (λ (b : ℕ). b ∷ bytes) same; rest_bytes = fits }; fits = tt })
 
-kind_takes : (bytes : List ℕ) (x : Kind × List ℕ) → AreBytes bytes → next_kind bytes ≡ Some x → IsRead Kind (λ kind. kind_byte kind ∷ []) (λ kind. Unit {0}) bytes x
+kind_takes : (bytes : List ℕ) (x : Kind × List ℕ) → AreBytes bytes → next_kind bytes ≡ Some x
+    → IsRead Kind (λ kind. kind_byte kind ∷ []) (λ kind. Unit {0}) bytes x
 unfolding next_kind
 kind_takes [] x fits e = absurd cc
 kind_takes (k ∷ bytes) x fits e =
@@ -98,7 +106,8 @@ pub length-be64 : (t : ℕ) → length (be64 t) ≡ 8
 unfolding be64
 length-be64 t = refl
 
-timestamp_takes : (bytes : List ℕ) (x : ℕ × List ℕ) → AreBytes bytes → next_timestamp bytes ≡ Some x → IsRead ℕ be64 (λ t. t < 2 ^ 40) bytes x
+timestamp_takes : (bytes : List ℕ) (x : ℕ × List ℕ) → AreBytes bytes → next_timestamp bytes ≡ Some x
+    → IsRead ℕ be64 (λ t. t < 2 ^ 40) bytes x
 unfolding next_timestamp be64
 timestamp_takes bytes x fits e =
     bind_ok (next_bytes 8 bytes) _ x e (λ a a-is a-then.
@@ -110,7 +119,9 @@ timestamp_takes bytes x fits e =
       fits = ltb-true _ _ g.0;
     }))
 
-timestamp_back : (t : ℕ) (rest : List ℕ) → t < 2 ^ 40 → cond {A = Option (ℕ × List ℕ)} (nat_lt (from_be_bytes w64 (be64 t)) (2 ^ 40)) (Some (from_be_bytes w64 (be64 t), rest)) None ≡ Some (t, rest)
+timestamp_back : (t : ℕ) (rest : List ℕ) → t < 2 ^ 40
+    → cond {A = Option (ℕ × List ℕ)} (nat_lt (from_be_bytes w64 (be64 t)) (2 ^ 40)) (Some (from_be_bytes w64 (be64 t), rest)) None
+    ≡ Some (t, rest)
 unfolding be64
 timestamp_back t rest lt =
     let same : from_be_bytes w64 (to_be_bytes w64 t) ≡ t = from_be_bytes-to_be_bytes_8 t (omega (arith, lt)) in
@@ -124,14 +135,16 @@ timestamp_again t rest lt =
 pub timestamp_reader : IsReader ℕ next_timestamp be64 (λ t. t < 2 ^ 40)
 timestamp_reader = record { takes = timestamp_takes; again = timestamp_again }
 
-number_takes : (bytes : List ℕ) (x : ℕ × List ℕ) → AreBytes bytes → next_number bytes ≡ Some x → IsRead ℕ be64 IsOperationNumber bytes x
+number_takes : (bytes : List ℕ) (x : ℕ × List ℕ) → AreBytes bytes → next_number bytes ≡ Some x
+    → IsRead ℕ be64 IsOperationNumber bytes x
 unfolding next_number
 number_takes bytes x fits e =
     bind_ok (next_timestamp bytes) _ x e (λ a a-is a-then.
     let t = timestamp_takes bytes a fits a-is in
     let g = unless_ok _ _ _ a-then in
     let positive : a.0 ≢ 0 = eqb-false _ _ g.0 in
-    subst (IsRead ℕ be64 IsOperationNumber bytes) (same_Some _ _ g.1) (record { taken = t.taken; fits = record { from_one = omega (arith, positive); below = t.fits } }))
+    subst (IsRead ℕ be64 IsOperationNumber bytes) (same_Some _ _ g.1)
+    (record { taken = t.taken; fits = record { from_one = omega (arith, positive); below = t.fits } }))
 
 number_again : (t : ℕ) (rest : List ℕ) → IsOperationNumber t → next_number (be64 t ++ rest) ≡ Some (t, rest)
 unfolding next_number
@@ -144,7 +157,8 @@ number_reader = record { takes = number_takes; again = number_again }
 
 -- ---- values
 
-value_takes : (bytes : List ℕ) (x : List ℕ × List ℕ) → AreBytes bytes → next_value bytes ≡ Some x → IsRead (List ℕ) value_bytes IsValue bytes x
+value_takes : (bytes : List ℕ) (x : List ℕ × List ℕ) → AreBytes bytes → next_value bytes ≡ Some x
+    → IsRead (List ℕ) value_bytes IsValue bytes x
 unfolding next_value value_bytes
 value_takes bytes x fits e =
     bind_ok (next_bytes 2 bytes) _ x e (λ a a-is a-then.
@@ -161,10 +175,12 @@ value_takes bytes x fits e =
 value_again : (bytes rest : List ℕ) → IsValue bytes → next_value (value_bytes bytes ++ rest) ≡ Some (bytes, rest)
 unfolding next_value value_bytes
 value_again bytes rest fits =
-    let back : from_be_bytes w16 (to_be_bytes w16 (length bytes)) ≡ length bytes = from_be_bytes-to_be_bytes_2 (length bytes) (omega (arith, fits.sized)) in
+    let back : from_be_bytes w16 (to_be_bytes w16 (length bytes)) ≡ length bytes =
+    from_be_bytes-to_be_bytes_2 (length bytes) (omega (arith, fits.sized)) in
     let short : ltb 4096 (length bytes) ≡ false = le-ltb _ _ fits.sized in
     ap next_value (append_assoc (to_be_bytes w16 (length bytes)) bytes rest)
-    ∙ bind_some _ _ _ _ (bytes_again (to_be_bytes w16 (length bytes)) (bytes ++ rest) 2 refl) (rw (back, short) (bytes_again bytes rest (length bytes) refl))
+    ∙ bind_some _ _ _ _ (bytes_again (to_be_bytes w16 (length bytes)) (bytes ++ rest) 2 refl)
+    (rw (back, short) (bytes_again bytes rest (length bytes) refl))
 
 pub value_reader : IsReader (List ℕ) next_value value_bytes IsValue
 value_reader = record { takes = value_takes; again = value_again }

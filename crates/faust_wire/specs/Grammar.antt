@@ -1,6 +1,7 @@
--- The bytes of each piece and of each message, in the order of the tables of docs/formats.md. `wire` is the
--- byte of the wire's version, which is 1.
-use Rattle.std.specs.Prelude.{◌≡◌, ℕ, cond, List, [], ◌∷◌, ◌++◌, length, Option, Some, None, flat_map}
+-- The bytes of each piece and of each message, in the order of the tables of docs/formats.md: what `decode` and
+-- `encode` promise rests on them. `wire` is the version of the wire, 1 or 2. It is the first byte of each message,
+-- and under wire 2 a SUBMIT says whether a COMMIT rides on it.
+use Rattle.std.specs.Prelude.{◌≡◌, ◌==◌, ℕ, cond, List, [], ◌∷◌, ◌++◌, length, Option, Some, None, IsNone, flat_map}
 use Rattle.std.specs.Int.{to_be_bytes, w16}
 use Rattle.faust_types.specs.Versions.{Vector, is_initial}
 use Rattle.faust_types.specs.Spelling.{be64, optional, version_bytes, kind_byte, peer_front}
@@ -48,14 +49,31 @@ abbrev pub written_bytes : Option (List ℕ) → List ℕ
 written_bytes None = []
 written_bytes (Some bytes) = value_bytes bytes
 
+-- What a COMMIT carries.
+abbrev pub commit_content : Commit → List ℕ
+commit_content m = version_bytes m.version ++ m.commit_tag ++ m.proof_tag
+
+-- The COMMIT that rides on a SUBMIT, or none, behind a flag.
+abbrev pub optional_commit_bytes : Option Commit → List ℕ
+optional_commit_bytes None = 0 ∷ []
+optional_commit_bytes (Some commit) = 1 ∷ commit_content commit
+
+-- Under wire 1 there is no place for it.
+abbrev pub riding_bytes : ℕ → Option Commit → List ℕ
+riding_bytes wire commit = cond (wire == 1) [] (optional_commit_bytes commit)
+
 unfoldable pub submit_bytes : ℕ → Submit → List ℕ
-submit_bytes wire m = wire ∷ 1 ∷ kind_byte m.kind ∷ m.register ∷ (be64 m.t ++ m.submit_tag ++ m.data_tag ++ written_bytes m.value)
+submit_bytes wire m =
+    wire ∷ 1 ∷ kind_byte m.kind ∷ m.register
+    ∷ (be64 m.t ++ m.submit_tag ++ m.data_tag ++ written_bytes m.value ++ riding_bytes wire m.commit)
 
 unfoldable pub reply_bytes : ℕ → Reply → List ℕ
-reply_bytes wire m = wire ∷ 2 ∷ m.c ∷ (signed_bytes m.version ++ length m.pending ∷ flat_map tuple_bytes m.pending ++ flat_map optional m.proofs ++ read_part_bytes m.read)
+reply_bytes wire m =
+    let pending = length m.pending ∷ flat_map tuple_bytes m.pending in
+    wire ∷ 2 ∷ m.c ∷ (signed_bytes m.version ++ pending ++ flat_map optional m.proofs ++ read_part_bytes m.read)
 
 unfoldable pub commit_bytes : ℕ → Commit → List ℕ
-commit_bytes wire m = wire ∷ 3 ∷ (version_bytes m.version ++ m.commit_tag ++ m.proof_tag)
+commit_bytes wire m = wire ∷ 3 ∷ commit_content m
 
 -- PROBE, VERSION and FAILURE.
 unfoldable pub peer_bytes : ℕ → PeerMessage → List ℕ
@@ -71,10 +89,19 @@ spelling wire (messages.Commit m) = commit_bytes wire m
 spelling wire (messages.Peer m) = peer_bytes wire m
 spelling wire (messages.Hello client) = hello_bytes wire client
 
--- The bytes, all of them, spell this message, which is in range for n clients.
-pub record IsSpellingOf (n : ℕ) (bytes : List ℕ) (message : Message) : Type 0 where
+-- Under wire 1 no COMMIT rides.
+abbrev pub IsForWire : ℕ → Message → Type 0
+IsForWire wire (messages.Submit m) = wire ≡ 1 → IsNone m.commit
+IsForWire wire (messages.Reply m) = Unit {0}
+IsForWire wire (messages.Commit m) = Unit {0}
+IsForWire wire (messages.Peer m) = Unit {0}
+IsForWire wire (messages.Hello client) = Unit {0}
+
+-- The bytes, all of them, spell this message under this wire, and it is in range for n clients.
+pub record IsSpellingOf (wire n : ℕ) (bytes : List ℕ) (message : Message) : Type 0 where
   pub in_range : IsMessageFor n message
-  pub spelled : bytes ≡ spelling 1 message
+  pub for_wire : IsForWire wire message
+  pub spelled : bytes ≡ spelling wire message
 
 -- The bytes, all of them, are the version bytes of this version of n clients.
 pub record IsVersionSpelling (n : ℕ) (bytes : List ℕ) (v : Vector) : Type 0 where

@@ -1,6 +1,9 @@
--- Reading from left to right. Each `next_` answers the piece that stands at the front of the bytes with the
--- bytes after it, or none where no such piece stands there. The last two, `message_of` and `version_of`, read all
--- of the bytes; `laws` says that they read exactly what the grammar spells.
+-- Reading from left to right, in the steps of the code: this file helps proofs. What `decode` promises is in the
+-- words of the grammar; it cites `IsReadAs` and, for those who compute with bytes, `Gives` and `message_of`.
+--
+-- Each `next_` answers the piece that stands at the front of the bytes with the bytes after it, or none where no
+-- such piece stands there. The last two, `message_of` and `version_of`, read all of the bytes; `laws` says that
+-- they read exactly what the grammar spells.
 use Rattle.std.specs.Prelude.{◌≡◌, ℕ, zero, suc, ◌+◌, ◌*◌, ◌^◌, Bool, true, false, ◌||◌, List, [], ◌∷◌, ◌++◌, length, take, drop, Option, Some, None, is_none, Result, Ok, Err, nat_lt, ◌==◌, if◌then◌else◌}
 use Rattle.std.specs.Int.{from_be_bytes, w16, w64}
 use Rattle.faust_types.specs.Versions.{Vector, initial, is_initial, with_entry}
@@ -64,7 +67,8 @@ optionally next bytes = do
   if flag.0 then (next flag.1 >>= λ x. Some (Some x.0, x.1)) else Some (None, flag.1)
 
 -- So many pieces, after those that were read.
-unfoldable pub next_items : {X : Type 0} → (List ℕ → Option (X × List ℕ)) → ℕ → List X → List ℕ → Option (List X × List ℕ)
+unfoldable pub next_items : {X : Type 0} → (List ℕ → Option (X × List ℕ)) → ℕ → List X → List ℕ
+    → Option (List X × List ℕ)
 next_items next zero items bytes = Some (items, bytes)
 next_items next (suc left) items bytes = do
   item ← next bytes
@@ -171,15 +175,40 @@ abbrev pub next_written : Kind → List ℕ → Option (Option (List ℕ) × Lis
 next_written Write bytes = next_value bytes >>= λ x. Some (Some x.0, x.1)
 next_written Read bytes = Some (None, bytes)
 
-unfoldable pub next_submit : ℕ → List ℕ → Option (Submit × List ℕ)
-next_submit n bytes = do
+unfoldable pub next_commit : ℕ → List ℕ → Option (Commit × List ℕ)
+next_commit n bytes = do
+  version ← next_version n bytes
+  commit_tag ← next_tag version.1
+  proof_tag ← next_tag commit_tag.1
+  if is_initial version.0
+      then None
+      else Some (record { version = version.0; commit_tag = commit_tag.0; proof_tag = proof_tag.0 }, proof_tag.1)
+
+-- The COMMIT that rides on a SUBMIT, or none; under wire 1 there is no place for it.
+abbrev pub next_riding : ℕ → ℕ → List ℕ → Option (Option Commit × List ℕ)
+next_riding wire n bytes = if wire == 1 then Some (None, bytes) else optionally (next_commit n) bytes
+
+unfoldable pub next_submit : ℕ → ℕ → List ℕ → Option (Submit × List ℕ)
+next_submit wire n bytes = do
   kind ← next_kind bytes
   register ← next_up_to n kind.1
   t ← next_number register.1
   submit_tag ← next_tag t.1
   data_tag ← next_tag submit_tag.1
   value ← next_written kind.0 data_tag.1
-  Some (record { kind = kind.0; register = register.0; t = t.0; value = value.0; submit_tag = submit_tag.0; data_tag = data_tag.0 }, value.1)
+  riding ← next_riding wire n value.1
+  Some (
+    record {
+      kind = kind.0;
+      register = register.0;
+      t = t.0;
+      value = value.0;
+      submit_tag = submit_tag.0;
+      data_tag = data_tag.0;
+      commit = riding.0;
+    },
+    riding.1,
+  )
 
 unfoldable pub next_reply : ℕ → List ℕ → Option (Reply × List ℕ)
 next_reply n bytes = do
@@ -189,13 +218,6 @@ next_reply n bytes = do
   proofs ← next_items next_optional n [] pending.1
   read ← optionally (next_read_part n) proofs.1
   Some (record { c = c.0; version = version.0; pending = pending.0; proofs = proofs.0; read = read.0 }, read.1)
-
-unfoldable pub next_commit : ℕ → List ℕ → Option (Commit × List ℕ)
-next_commit n bytes = do
-  version ← next_version n bytes
-  commit_tag ← next_tag version.1
-  proof_tag ← next_tag commit_tag.1
-  if is_initial version.0 then None else Some (record { version = version.0; commit_tag = commit_tag.0; proof_tag = proof_tag.0 }, proof_tag.1)
 
 -- The version in a VERSION: 0, or its maker and what it made.
 unfoldable pub next_announced : ℕ → List ℕ → Option (Known × List ℕ)
@@ -220,9 +242,9 @@ next_peer n kind bytes = do
   if from.0 == to.0 then None else Some (record { from = from.0; to = to.0; peer = content.0; tag = tag.0 }, tag.1)
 
 -- A message behind the byte that tells its kind.
-unfoldable pub next_of_kind : ℕ → ℕ → List ℕ → Option (Message × List ℕ)
-next_of_kind n kind bytes =
-    if kind == 1 then (next_submit n bytes >>= λ x. Some (messages.Submit x.0, x.1))
+unfoldable pub next_of_kind : ℕ → ℕ → ℕ → List ℕ → Option (Message × List ℕ)
+next_of_kind wire n kind bytes =
+    if kind == 1 then (next_submit wire n bytes >>= λ x. Some (messages.Submit x.0, x.1))
     else if kind == 2 then (next_reply n bytes >>= λ x. Some (messages.Reply x.0, x.1))
     else if kind == 3 then (next_commit n bytes >>= λ x. Some (messages.Commit x.0, x.1))
     else if kind == 7 then (next_up_to n bytes >>= λ x. Some (messages.Hello x.0, x.1))
@@ -232,14 +254,14 @@ unfoldable pub next_message : ℕ → ℕ → List ℕ → Option (Message × Li
 next_message wire n bytes = do
   first ← next_byte bytes
   kind ← next_byte first.1
-  if first.0 == wire then next_of_kind n kind.0 kind.1 else None
+  if first.0 == wire then next_of_kind wire n kind.0 kind.1 else None
 
 -- A piece behind which nothing stands.
 abbrev pub whole : {X : Type 0} → Option (X × List ℕ) → Option X
 whole None = None
 whole (Some x) = if length x.1 == 0 then Some x.0 else None
 
--- The message that the bytes spell for n clients, or none.
+-- The message that the bytes spell under this wire for n clients, or none.
 unfoldable pub message_of : ℕ → ℕ → List ℕ → Option Message
 message_of wire n bytes = whole (next_message wire n bytes)
 

@@ -1,52 +1,15 @@
 ghost use Rattle.faust_types.specs.Clients.{IsClientCount};
-ghost use Rattle.faust_wire.specs.Reading.{Gives, next_written, next_submit, next_reply, next_commit, next_announced, next_content, next_peer, next_of_kind, next_message};
+ghost use Rattle.faust_wire.specs.Reading.{Gives, next_reply, next_announced, next_content, next_peer, next_of_kind, next_message};
 
 use crate::error::WireError;
-use crate::numbers::{
-    COMMIT, FAILURE, HELLO, LAST_CHECK, PROBE, REPLY, SUBMIT, VERSION, WIRE_VERSION,
-};
-use crate::parts::{next_byte, next_kind, next_number, next_tag, next_up_to, next_value};
+use crate::numbers::{COMMIT, HELLO, LAST_CHECK, REPLY, SUBMIT};
+use crate::parts::{next_byte, next_tag, next_up_to};
 use crate::pieces::{next_optional_read_part, next_pending, next_proofs};
-use crate::version::{next_known, next_signed, next_version};
-use faust_types::{Bytes, Commit, Kind, Known, Message, Peer, PeerMessage, Reply, Submit};
+use crate::submit::{next_commit, next_submit};
+use crate::version::{next_known, next_signed};
+use faust_types::spelling::{FAILURE, PROBE, VERSION};
+use faust_types::{Known, Message, Peer, PeerMessage, Reply};
 use std::alloc::Global;
-
-fn next_written(
-    alloc: Global,
-    kind: Kind,
-    bytes: &[u8],
-) -> Result<(Option<Bytes>, &[u8]), WireError>
-    ensures { Gives (λ x. (x.0, x.1.now)) result (next_written kind bytes.now) }
-{
-    match kind {
-        Kind::Write => {
-            let (value, rest) = next_value(alloc, bytes)?;
-            Ok((Some(value), rest))
-        }
-        Kind::Read => Ok((None, bytes)),
-    }
-}
-
-#[tactic(auto, unfolding(crate::specs::Reading::next_submit))]
-fn next_submit(alloc: Global, n: u8, bytes: &[u8]) -> Result<(Submit, &[u8]), WireError>
-    ensures { Gives (λ x. (x.0, x.1.now)) result (next_submit n bytes.now) }
-{
-    let (kind, rest) = next_kind(bytes)?;
-    let (register, rest) = next_up_to(n, rest)?;
-    let (t, rest) = next_number(rest)?;
-    let (submit_tag, rest) = next_tag(rest)?;
-    let (data_tag, rest) = next_tag(rest)?;
-    let (value, rest) = next_written(alloc, kind, rest)?;
-    let submit = Submit {
-        kind,
-        register,
-        t,
-        value,
-        submit_tag,
-        data_tag,
-    };
-    Ok((submit, rest))
-}
 
 #[tactic(auto, unfolding(crate::specs::Reading::next_reply))]
 fn next_reply(alloc: Global, n: u8, bytes: &[u8]) -> Result<(Reply, &[u8]), WireError>
@@ -66,25 +29,6 @@ fn next_reply(alloc: Global, n: u8, bytes: &[u8]) -> Result<(Reply, &[u8]), Wire
         read,
     };
     Ok((reply, rest))
-}
-
-#[tactic(auto, unfolding(crate::specs::Reading::next_commit))]
-fn next_commit(alloc: Global, n: u8, bytes: &[u8]) -> Result<(Commit, &[u8]), WireError>
-    requires { IsClientCount n }
-    ensures { Gives (λ x. (x.0, x.1.now)) result (next_commit n bytes.now) }
-{
-    let (version, rest) = next_version(alloc, n, bytes)?;
-    let (commit_tag, rest) = next_tag(rest)?;
-    let (proof_tag, rest) = next_tag(rest)?;
-    if version.is_initial() {
-        return Err(WireError::Malformed);
-    }
-    let commit = Commit {
-        version,
-        commit_tag,
-        proof_tag,
-    };
-    Ok((commit, rest))
 }
 
 #[tactic(auto, unfolding(crate::specs::Reading::next_announced))]
@@ -148,13 +92,19 @@ fn next_peer(
 }
 
 #[tactic(auto, unfolding(crate::specs::Reading::next_of_kind))]
-fn next_of_kind(alloc: Global, n: u8, kind: u8, bytes: &[u8]) -> Result<(Message, &[u8]), WireError>
+fn next_of_kind(
+    alloc: Global,
+    wire: u8,
+    n: u8,
+    kind: u8,
+    bytes: &[u8],
+) -> Result<(Message, &[u8]), WireError>
     requires { IsClientCount n }
-    ensures { Gives (λ x. (x.0, x.1.now)) result (next_of_kind n kind bytes.now) }
+    ensures { Gives (λ x. (x.0, x.1.now)) result (next_of_kind wire n kind bytes.now) }
 {
     match kind {
         SUBMIT => {
-            let (submit, rest) = next_submit(alloc, n, bytes)?;
+            let (submit, rest) = next_submit(alloc, wire, n, bytes)?;
             Ok((Message::Submit(submit), rest))
         }
         REPLY => {
@@ -179,16 +129,17 @@ fn next_of_kind(alloc: Global, n: u8, kind: u8, bytes: &[u8]) -> Result<(Message
 #[tactic(auto, unfolding(crate::specs::Reading::next_message))]
 pub(crate) fn next_message(
     alloc: Global,
+    wire: u8,
     n: u8,
     bytes: &[u8],
 ) -> Result<(Message, &[u8]), WireError>
     requires { IsClientCount n }
-    ensures { Gives (λ x. (x.0, x.1.now)) result (next_message 1 n bytes.now) }
+    ensures { Gives (λ x. (x.0, x.1.now)) result (next_message wire n bytes.now) }
 {
-    let (wire, rest) = next_byte(bytes)?;
+    let (first, rest) = next_byte(bytes)?;
     let (kind, rest) = next_byte(rest)?;
-    if wire != WIRE_VERSION {
+    if first != wire {
         return Err(WireError::Malformed);
     }
-    next_of_kind(alloc, n, kind, rest)
+    next_of_kind(alloc, wire, n, kind, rest)
 }

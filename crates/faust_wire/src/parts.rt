@@ -2,7 +2,7 @@ ghost use Rattle.std.specs.Prelude.{◌^◌, ◌<◌, IfOk};
 ghost use Rattle.faust_wire.specs.Reading.{Gives, next_byte, next_bytes, next_flag, next_up_to, next_kind, next_timestamp, next_number, next_tag, next_optional, next_value, optionally};
 
 use crate::error::WireError;
-use crate::numbers::{ABSENT, PRESENT, READ, WRITE};
+use faust_types::spelling::{ABSENT, PRESENT, READ, WRITE};
 use faust_types::{Bytes, Kind, MAX_TIMESTAMP, MAX_VALUE_LEN, Tag};
 use std::alloc::Global;
 

@@ -1,36 +1,16 @@
 ghost use Rattle.std.specs.Prelude.{◌≡◌, ◌≤◌, ◌∷◌, ◌++◌, length, flat_map, OnOk, IfSome};
-ghost use Rattle.faust_types.specs.Spelling.{be64, optional, kind_byte};
-ghost use Rattle.faust_wire.specs.Grammar.{signed_bytes, value_bytes, optional_value_bytes, memory_bytes, tuple_bytes, read_part_bytes, written_bytes};
+ghost use Rattle.faust_types.specs.Spelling.{be64, optional};
+ghost use Rattle.faust_wire.specs.Grammar.{riding_bytes, commit_content, signed_bytes, value_bytes, optional_value_bytes, memory_bytes, tuple_bytes, read_part_bytes, written_bytes};
 
-use crate::numbers::{ABSENT, PRESENT, READ, WRITE};
-use faust_types::{Bytes, Kind, Known, MAX_VALUE_LEN, Mem, OutOfMemory, ReadPart, Tag, Tuple};
-
-pub(crate) fn byte_of_kind(kind: Kind) -> u8
-    ensures { result ≡ kind_byte kind }
-{
-    match kind {
-        Kind::Write => WRITE,
-        Kind::Read => READ,
-    }
-}
+use crate::numbers::FIRST_WIRE;
+use faust_types::spelling::{ABSENT, PRESENT, byte_of_kind, put_optional};
+use faust_types::{Bytes, Commit, Known, Mem, OutOfMemory, ReadPart, Tag, Tuple, Version};
 
 #[tactic(auto, unfolding(faust_types::specs::Spelling::be64))]
 pub(crate) fn put_number(t: u64, out: &mut Bytes) -> Result<(), OutOfMemory>
     ensures { OnOk result (out.new ≡ out.old ++ be64 t) }
 {
     out.append(&t.to_be_bytes())
-}
-
-fn put_optional(tag: Option<Tag>, out: &mut Bytes) -> Result<(), OutOfMemory>
-    ensures { OnOk result (out.new ≡ out.old ++ optional tag) }
-{
-    match tag {
-        None => out.push(ABSENT),
-        Some(tag) => {
-            out.push(PRESENT)?;
-            out.append(&tag)
-        }
-    }
 }
 
 #[tactic(auto, unfolding(crate::specs::Grammar::signed_bytes))]
@@ -131,4 +111,36 @@ pub(crate) fn put_proofs(proofs: &[Option<Tag>], out: &mut Bytes) -> Result<(), 
         put_optional(*proof, out)?;
     }
     Ok(())
+}
+
+pub(crate) fn put_commit(
+    version: &Version,
+    commit_tag: &Tag,
+    proof_tag: &Tag,
+    out: &mut Bytes,
+) -> Result<(), OutOfMemory>
+    ensures { OnOk result (out.new ≡ out.old ++ commit_content (record { version = version.now; commit_tag = commit_tag.now; proof_tag = proof_tag.now })) }
+{
+    version.put(out)?;
+    out.append(commit_tag)?;
+    out.append(proof_tag)
+}
+
+pub(crate) fn put_riding(
+    wire: u8,
+    commit: &Option<Commit>,
+    out: &mut Bytes,
+) -> Result<(), OutOfMemory>
+    ensures { OnOk result (out.new ≡ out.old ++ riding_bytes wire commit.now) }
+{
+    if wire == FIRST_WIRE {
+        return Ok(());
+    }
+    match commit {
+        None => out.push(ABSENT),
+        Some(commit) => {
+            out.push(PRESENT)?;
+            put_commit(&commit.version, &commit.commit_tag, &commit.proof_tag, out)
+        }
+    }
 }

@@ -1,11 +1,13 @@
 //! Room for spellings, so that one allocation serves each.
-ghost use Rattle.std.specs.Prelude.{◌≡◌, ◌+◌, ◌*◌, ◌≤◌, length, IfSome};
+ghost use Rattle.std.specs.Prelude.{◌≡◌, ℕ, ◌+◌, ◌*◌, ◌≤◌, length, IfSome};
 ghost use Rattle.faust_types.specs.Ranges.{IsValue, IsMem, IsReadPartFor, IsSubmitFor, IsReplyFor, IsCommitFor, IsPeerFor, IsPeerMessageFor};
 ghost use Rattle.faust_types.specs.Spelling.{peer_content};
 ghost use Rattle.faust_types.specs.declared.message.Commit.{Commit};
-ghost use Rattle.faust_wire.specs.Grammar.{submit_bytes, reply_bytes, commit_bytes, peer_bytes, read_part_bytes, memory_bytes, optional_value_bytes};
+ghost use Rattle.faust_wire.specs.Grammar.{riding_bytes, submit_bytes, reply_bytes, commit_bytes, peer_bytes, read_part_bytes, memory_bytes, optional_value_bytes};
 
-use faust_types::{Bytes, Mem, Peer, PeerMessage, ReadPart, Reply, Submit};
+use crate::numbers::FIRST_WIRE;
+use faust_types::spelling::version_room;
+use faust_types::{Bytes, Commit, Mem, Peer, PeerMessage, ReadPart, Reply, Submit};
 
 // The bytes of a timestamp.
 const NUMBER_LEN: usize = 8;
@@ -19,16 +21,10 @@ const OPTIONAL_LEN: usize = 1 + TAG_LEN;
 // The bytes of a tuple: client, kind, register and tag.
 const TUPLE_LEN: usize = 3 + TAG_LEN;
 
-fn room_for_version(n: u8) -> usize
-    ensures { result ≡ 41 * n }
-{
-    usize::from(n) * (NUMBER_LEN + OPTIONAL_LEN)
-}
-
 fn room_for_signed(n: u8) -> usize
     ensures { result ≡ 33 + 41 * n }
 {
-    1 + room_for_version(n) + TAG_LEN
+    1 + version_room(n) + TAG_LEN
 }
 
 fn room_for_value(value: &Option<Bytes>) -> usize
@@ -64,16 +60,31 @@ fn room_for_read_part(n: u8, part: &Option<ReadPart>) -> usize
     }
 }
 
-pub(crate) fn room_for_submit(n: u8, submit: &Submit) -> usize
-    requires { IsSubmitFor n submit.now }
-    ensures { length (submit_bytes 1 submit.now) ≤ result }
+fn room_for_riding(wire: u8, n: u8, commit: &Option<Commit>) -> usize
+    requires { IfSome commit.now (IsCommitFor n) }
+    ensures enough { length (riding_bytes wire commit.now) ≤ result }
+    ensures most { result ≤ 65 + 41 * n }
 {
-    4 + NUMBER_LEN + 2 * TAG_LEN + room_for_value(&submit.value)
+    if wire == FIRST_WIRE {
+        return 0;
+    }
+    match commit {
+        None => 1,
+        Some(_) => 1 + version_room(n) + 2 * TAG_LEN,
+    }
+}
+
+pub(crate) fn room_for_submit(wire: u8, n: u8, submit: &Submit) -> usize
+    requires { IsSubmitFor n submit.now }
+    ensures { length (submit_bytes wire submit.now) ≤ result }
+{
+    let written = room_for_value(&submit.value);
+    4 + NUMBER_LEN + 2 * TAG_LEN + written + room_for_riding(wire, n, &submit.commit)
 }
 
 pub(crate) fn room_for_reply(n: u8, reply: &Reply) -> usize
     requires { IsReplyFor n reply.now }
-    ensures { length (reply_bytes 1 reply.now) ≤ result }
+    ensures { (wire : ℕ) → length (reply_bytes wire reply.now) ≤ result }
 {
     4 + room_for_signed(n)
         + reply.pending.len() * TUPLE_LEN
@@ -82,9 +93,9 @@ pub(crate) fn room_for_reply(n: u8, reply: &Reply) -> usize
 }
 
 pub(crate) fn room_for_commit(n: u8) -> usize
-    ensures { (commit : Commit) → IsCommitFor n commit → length (commit_bytes 1 commit) ≤ result }
+    ensures { (wire : ℕ) (commit : Commit) → IsCommitFor n commit → length (commit_bytes wire commit) ≤ result }
 {
-    2 + room_for_version(n) + 2 * TAG_LEN
+    2 + version_room(n) + 2 * TAG_LEN
 }
 
 fn room_for_content(n: u8, peer: &Peer) -> usize
@@ -101,7 +112,7 @@ fn room_for_content(n: u8, peer: &Peer) -> usize
 
 pub(crate) fn room_for_peer(n: u8, message: &PeerMessage) -> usize
     requires { IsPeerMessageFor n message.now }
-    ensures { length (peer_bytes 1 message.now) ≤ result }
+    ensures { (wire : ℕ) → length (peer_bytes wire message.now) ≤ result }
 {
     4 + room_for_content(n, &message.peer) + TAG_LEN
 }

@@ -4,7 +4,13 @@ use Rattle.faust_wire.proofs.reading.decode.Goals as goal
 
 pub returns-clause-found : goal.returns-clause-found
 returns-clause-found c =
-    given_found c.whole_message.result _ _ (λ x. message_found c.args.n c.args.bytes.now x c.requires (λ i. omega (arith, c.type_inv.bytes i))) c.whole_message.ensures
+    let bytes = c.args.bytes.now in
+    given_found c.whole_message.result _ _
+    (λ x. message_found c.args.wire c.args.n bytes x c.requires.count (λ i. omega (arith, c.type_inv.bytes i)))
+    c.whole_message.ensures
 
 pub returns-clause-only : goal.returns-clause-only
-returns-clause-only c = λ x spells. given_only c.whole_message.result _ x (message_only c.args.n c.args.bytes.now x c.requires spells) c.whole_message.ensures
+returns-clause-only c = λ x spells.
+    given_only c.whole_message.result _ x
+    (message_only c.args.wire c.args.n c.args.bytes.now x c.requires.count spells)
+    c.whole_message.ensures

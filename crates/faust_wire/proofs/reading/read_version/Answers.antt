@@ -4,7 +4,11 @@ use Rattle.faust_wire.proofs.reading.read_version.Goals as goal
 
 pub returns-clause-found : goal.returns-clause-found
 returns-clause-found c =
-    given_found c.whole_version.result _ _ (λ x. version_found c.args.n c.args.bytes.now x c.requires (λ i. omega (arith, c.type_inv.bytes i))) c.whole_version.ensures
+    let bytes = c.args.bytes.now in
+    given_found c.whole_version.result _ _
+    (λ x. version_found c.args.n bytes x c.requires (λ i. omega (arith, c.type_inv.bytes i)))
+    c.whole_version.ensures
 
 pub returns-clause-only : goal.returns-clause-only
-returns-clause-only c = λ x spells. given_only c.whole_version.result _ x (version_only c.args.n c.args.bytes.now x c.requires spells) c.whole_version.ensures
+returns-clause-only c = λ x spells.
+    given_only c.whole_version.result _ x (version_only c.args.n c.args.bytes.now x c.requires spells) c.whole_version.ensures
