@@ -21,7 +21,7 @@ use Rattle.faust_wire.proofs.Submits.{commit_reader, submit_text, submit_reader}
 
 -- ---- REPLY
 
-abbrev reply_text : Reply → List ℕ
+abbrev pub reply_text : Reply → List ℕ
 reply_text m = m.c ∷ (signed_bytes m.version ++ pending_text m.pending ++ flat_map optional m.proofs ++ read_part_bytes m.read)
 
 reply_takes : (n : ℕ) → IsClientCount n → (bytes : List ℕ) (x : Reply × List ℕ) → AreBytes bytes → next_reply n bytes ≡ Some x
@@ -116,7 +116,7 @@ content_again n count (peers.Version known) rest fits = bind_some _ _ _ _ ((anno
 content_again n count (peers.Failure check) rest fits =
     bind_some _ _ _ _ ((client_reader 15).again check rest (record { from_one = fits.from_one; to_n = fits.to_15 })) refl
 
-abbrev peer_text : PeerMessage → List ℕ
+abbrev pub peer_text : PeerMessage → List ℕ
 peer_text m = m.from ∷ m.to ∷ (peer_content m.peer ++ m.tag)
 
 record IsPeerOf (n kind : ℕ) (m : PeerMessage) : Type 0 where
@@ -165,21 +165,21 @@ peer_again n count m rest fits =
 
 -- ---- any message
 
-abbrev kind_of : Message → ℕ
+abbrev pub kind_of : Message → ℕ
 kind_of (messages.Submit m) = 1
 kind_of (messages.Reply m) = 2
 kind_of (messages.Commit m) = 3
 kind_of (messages.Peer m) = peer_byte m.peer
 kind_of (messages.Hello client) = 7
 
-abbrev text_of : ℕ → Message → List ℕ
+abbrev pub text_of : ℕ → Message → List ℕ
 text_of wire (messages.Submit m) = submit_text wire m
 text_of wire (messages.Reply m) = reply_text m
 text_of wire (messages.Commit m) = commit_content m
 text_of wire (messages.Peer m) = peer_text m
 text_of wire (messages.Hello client) = client ∷ []
 
-spelling-parts : (wire : ℕ) (m : Message) → spelling wire m ≡ wire ∷ kind_of m ∷ text_of wire m
+pub spelling-parts : (wire : ℕ) (m : Message) → spelling wire m ≡ wire ∷ kind_of m ∷ text_of wire m
 unfolding submit_bytes reply_bytes commit_bytes peer_bytes peer_front
 spelling-parts wire (messages.Submit m) = refl
 spelling-parts wire (messages.Reply m) = refl

@@ -20,7 +20,7 @@ use Rattle.faust_wire.specs.Grammar.{submit_bytes, reply_bytes, commit_bytes, pe
 use Rattle.faust_wire.specs.Reading.{Gives, IsReadAs, next_version, next_message, whole, message_of, version_of}
 use Rattle.faust_wire.proofs.Readers.{if_ok, IsRead}
 use Rattle.faust_wire.proofs.Entries.{version_reader}
-use Rattle.faust_wire.proofs.AnyMessages.{IsUnder, message_takes, message_again}
+use Rattle.faust_wire.proofs.AnyMessages.{IsUnder, kind_of, text_of, spelling-parts, message_takes, message_again}
 
 -- ---- whole texts
 
@@ -96,6 +96,16 @@ pub same_message : (wire n : ℕ) (bytes : List ℕ) (a b : Message) → IsClien
     → IsSpellingOf wire n bytes a → IsSpellingOf wire n bytes b → a ≡ b
 same_message wire n bytes a b count a-spells b-spells =
     same_Some a b (sym (message_only wire n bytes a count a-spells) ∙ message_only wire n bytes b count b-spells)
+
+-- and under one version of the wire at most
+pub same_wire : (v w n : ℕ) (bytes : List ℕ) (a b : Message) → IsSpellingOf v n bytes a → IsSpellingOf w n bytes b → v ≡ w
+same_wire v w n bytes a b a-spells b-spells =
+    let first : bytes ≡ v ∷ kind_of a ∷ text_of v a = a-spells.spelled ∙ spelling-parts v a in
+    let second : bytes ≡ w ∷ kind_of b ∷ text_of w b = b-spells.spelled ∙ spelling-parts w b in
+    same_first v w _ _ (sym first ∙ second)
+  where
+    same_first : (x y : ℕ) (xs ys : List ℕ) → x ∷ xs ≡ y ∷ ys → x ≡ y
+    same_first x y xs ys e = cc
 
 -- what bytes are read as is in range
 pub message-range : (wire n : ℕ) (bytes : List ℕ) (m : Message) → IsClientCount n → AreBytes bytes

@@ -17,6 +17,12 @@ pub fn one_message()
         IsSpellingOf wire n bytes a → IsSpellingOf wire n bytes b → a ≡ b }
 {}
 
+/// Bytes that spell a message under one version of the wire spell none under the other.
+#[tactic(auto, using(crate::proofs::Messages::same_wire))]
+pub fn one_wire()
+    ensures { (v w n : ℕ) (bytes : List ℕ) (a b : Message) → IsSpellingOf v n bytes a → IsSpellingOf w n bytes b → v ≡ w }
+{}
+
 /// What bytes are read as is what they spell, and what they spell is what they are read as.
 #[tactic(auto, using(crate::proofs::Messages::message_only))]
 pub fn message_of_is_spelled()
