@@ -1,13 +1,13 @@
 -- Each item of a spelling is a byte.
-use Rattle.std.proofs.Common.{◌≡◌, ℕ, zero, suc, ◌+◌, ◌^◌, ◌<◌, ◌≤◌, ◌/◌, ◌%◌, true, false, List, [], ◌∷◌, ◌++◌, length, Option, Some, None, arith}
-use Rattle.std.specs.Prelude.{IfSome, IsNone, flat_map, ◌==◌}
+use Rattle.std.proofs.Common.{ℕ, zero, suc, ◌^◌, ◌<◌, ◌/◌, List, [], ◌∷◌, ◌++◌, length, Option, Some, None, arith}
+use Rattle.std.specs.Prelude.{IfSome, flat_map, ◌==◌}
 use Rattle.std.specs.List.{AllByRecursion}
-use Rattle.std.specs.Int.{to_be_bytes, bytes_high_first, byte_at, w16, w64}
+use Rattle.std.specs.Int.{to_be_bytes, bytes_high_first, byte_at, w16}
 use Rattle.std.proofs.Math.Nat.{mod-lt}
 use Rattle.std.proofs.lemmas.Bool.{cond_both}
 use Rattle.faust_types.specs.Clients.{IsClientCount, IsClient}
 use Rattle.faust_types.specs.Versions.{Vector, is_initial}
-use Rattle.faust_types.specs.Ranges.{AreBytes, IsWire, IsDigest, IsValue, IsVersionFor, IsKnownBy, IsAnnouncedFor, IsTupleFor, IsMem, IsReadPartFor, IsReplyFor, IsValueOf, IsSubmitFor, IsCommitFor, IsPeerFor, IsPeerMessageFor, IsMessageFor}
+use Rattle.faust_types.specs.Ranges.{AreBytes, IsWire, IsDigest, IsValue, IsVersionFor, IsKnownBy, IsAnnouncedFor, IsTupleFor, IsMem, IsReadPartFor, IsReplyFor, IsSubmitFor, IsCommitFor, IsPeerFor, IsPeerMessageFor, IsMessageFor}
 use Rattle.faust_types.specs.Spelling.{be64, optional, version_bytes, kind_byte, announced, peer_byte, peer_content, peer_front}
 use Rattle.faust_types.specs.declared.operation.Kind.{Kind}
 use Rattle.faust_types.specs.declared.operation.Kind.TheVariants.{Write, Read}
@@ -27,7 +27,7 @@ use Rattle.faust_wire.specs.Grammar.{signed_bytes, value_bytes, optional_value_b
 use Rattle.faust_wire.proofs.Entries.{version_digests}
 use Rattle.faust_wire.proofs.Lengths.{some_value}
 
--- ---- lists of bytes
+-- ---- lists of bytes; whoever puts bytes together cites these
 
 pub AreBytes-nil : AreBytes []
 AreBytes-nil i = omega arith

@@ -230,6 +230,7 @@ submit_at_most wire n m count fits =
       count.at_most_32,
     )
 
+-- and so no message is longer than the largest reply
 pub spelling_at_most : (wire n : ℕ) (m : Message) → IsClientCount n → IsMessageFor n m → length (spelling wire m) ≤ 8977
 spelling_at_most wire n (messages.Submit m) count fits = omega (arith, submit_at_most wire n m count fits)
 spelling_at_most wire n (messages.Reply m) count fits = reply_at_most wire n m count fits

@@ -61,6 +61,7 @@ message_only wire n bytes m count spells =
     ap (λ (t : List ℕ). whole (next_message wire n t)) spells.spelled
     ∙ whole_again (next_message wire n) (spelling wire m) m (message_again wire n count m [] under)
 
+-- the same of versions
 pub version_found : (n : ℕ) (bytes : List ℕ) (v : Vector) → IsClientCount n → AreBytes bytes → version_of n bytes ≡ Some v
     → IsVersionSpelling n bytes v
 unfolding version_of
