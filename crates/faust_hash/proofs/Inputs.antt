@@ -1,8 +1,17 @@
--- What a hashed input tells of what it was made of.
+-- What a digest is the digest of, and what a hashed input tells of what it was made of.
 use Rattle.std.proofs.Common.{◌≡◌, ℕ, List, [], ◌∷◌, ◌++◌, length, get_or, Option, None, Some, arith, ap, refl, ◌∙◌, sym}
 use Rattle.std.proofs.lemmas.List.{append_cancel_left, length-append}
 use Rattle.std.specs.Prelude.{IfSome}
-use Rattle.faust_hash.specs.Chain.{chain_input, value_input}
+use Rattle.faust_hash.specs.Chain.{chain_input, input_digest, link, value_digest_of, value_input}
+
+-- the digests of the protocol are those of their hashed inputs
+pub link_of_input : (before : Option (List ℕ)) (k : ℕ) → link before k ≡ input_digest (chain_input before k)
+unfolding link input_digest
+link_of_input before k = refl
+
+pub value_digest_of_input : (value : List ℕ) → value_digest_of value ≡ input_digest (value_input value)
+unfolding value_digest_of input_digest
+value_digest_of_input value = refl
 
 -- a hashed input without the byte that says which it is
 rest : List ℕ → List ℕ

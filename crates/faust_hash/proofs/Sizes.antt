@@ -6,7 +6,7 @@ use Rattle.std.specs.Int.{byte_at, bytes_high_first, to_be_bytes, w32}
 use Rattle.std.proofs.lemmas.List.Elements.{All-append, All-cons, All-nil}
 use Rattle.sha2.specs.Sha256.{digest_bytes, final_hash, initial_hash_256, sha256}
 use Rattle.sha2.proofs.Facts256.{length-sha256}
-use Rattle.faust_hash.specs.Chain.{link, value_digest_of}
+use Rattle.faust_hash.specs.Chain.{input_digest, link, value_digest_of}
 use Rattle.faust_hash.specs.Hmac.{hmac_of}
 
 abbrev IsByte : ℕ → Type 0
@@ -40,6 +40,14 @@ tag_length key body = length-sha256 _
 pub tag_bytes : (key body : List ℕ) → All (λ byte. byte < 256) (hmac_of key body)
 unfolding hmac_of
 tag_bytes key body = sha256-bytes _
+
+pub input_length : (input : List ℕ) → length (input_digest input) ≡ 32
+unfolding input_digest
+input_length input = length-sha256 _
+
+pub input_bytes : (input : List ℕ) → All (λ byte. byte < 256) (input_digest input)
+unfolding input_digest
+input_bytes input = sha256-bytes _
 
 pub link_length : (before : Option (List ℕ)) (k : ℕ) → length (link before k) ≡ 32
 unfolding link

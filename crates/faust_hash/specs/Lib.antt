@@ -1,3 +1,4 @@
 pub mod Hmac
 pub mod Chain
 pub mod Tag
+pub mod Prepared

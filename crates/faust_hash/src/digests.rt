@@ -1,6 +1,6 @@
 ghost use Rattle.std.specs.Prelude.{◌≡◌};
 ghost use Rattle.std.specs.Option.{option_copied};
-ghost use Rattle.faust_hash.specs.Chain.{link, value_digest_of};
+ghost use Rattle.faust_hash.specs.Chain.{input_digest, link, value_digest_of};
 
 use sha2::{Digest, Sha256};
 
@@ -26,6 +26,14 @@ pub fn chain(prev: Option<&[u8; 32]>, k: u8) -> [u8; 32]
             hasher.finalize()
         }
     }
+}
+
+/// The digest of any hashed input, that of a chain or of a value: two inputs of one digest are a collision.
+#[tactic(auto, unfolding(crate::specs::Chain::input_digest))]
+pub fn input_digest(input: &[u8]) -> [u8; 32]
+    ensures { result ≡ input_digest input.now }
+{
+    Sha256::digest(input)
 }
 
 /// The digest of a value, which stands for it in the body that a writer tags.

@@ -1,8 +1,10 @@
-ghost use Rattle.std.specs.Prelude.{◌≡◌, ◌≤◌, ◌++◌, length};
-ghost use Rattle.sha2.specs.Sha256.{sha256};
+ghost use Rattle.std.specs.Prelude.{◌≡◌, ◌≤◌, length};
+ghost use Rattle.sha2.specs.Hashers.{Holds256};
 ghost use Rattle.faust_hash.specs.Hmac.{block_key as block_key_of, hmac_of, masked as masked_by, padded as padded_bytes};
 
+use crate::ghost_bytes::GhostBytes;
 use sha2::{Digest, Sha256};
+use std::marker::Model;
 
 // How many bytes SHA-256 takes in at a time.
 const BLOCK: usize = 64;
@@ -13,24 +15,86 @@ const INNER_PAD: u8 = 0x36;
 // The byte that the outer pad repeats.
 const OUTER_PAD: u8 = 0x5c;
 
+/// A key made ready for many tags, as section 4 of RFC 2104 has it: both hashes have taken in their block of the
+/// key, and a tag of a short body costs two more blocks in place of four. Clauses see the key's bytes.
+#[derive(Drop)]
+pub struct PreparedKey {
+    inner: Sha256,
+    outer: Sha256,
+    key: GhostBytes,
+}
+
+impl Model for PreparedKey {
+    ghost use Rattle.std.specs.Prelude.{ℕ, List};
+    ghost use Rattle.faust_hash.specs.Prepared.{IsPrepared};
+
+    ghost Value = { List ℕ };
+
+    ghost view = { λ prepared. prepared.key.bytes };
+
+    ghost invariant = { λ prepared. IsPrepared prepared.key.bytes prepared.inner prepared.outer };
+}
+
+impl PreparedKey {
+    /// The key, of any length, made ready.
+    pub fn new(key: &[u8]) -> PreparedKey
+        ensures { result ≡ key.now }
+    {
+        let block = block_key(key);
+        PreparedKey {
+            inner: begun(&masked(&block, INNER_PAD)),
+            outer: begun(&masked(&block, OUTER_PAD)),
+            key: GhostBytes::of(&key),
+        }
+    }
+
+    /// The tag of `body`, of any length, under this key.
+    #[tactic(auto, unfolding(crate::specs::Hmac::hmac_of))]
+    pub fn tag(&self, body: &[u8]) -> [u8; 32]
+        ensures { result ≡ hmac_of self.now body.now }
+    {
+        let mut inner = copied(&self.inner);
+        inner.update(body);
+        let mut outer = copied(&self.outer);
+        outer.update(inner.finalize());
+        outer.finalize()
+    }
+
+    /// The same key once more.
+    pub fn copy(&self) -> PreparedKey
+        ensures { result ≡ self.now }
+    {
+        PreparedKey {
+            inner: copied(&self.inner),
+            outer: copied(&self.outer),
+            key: GhostBytes::of(&self.key),
+        }
+    }
+}
+
 /// The tag of `body` under `key`: HMAC (RFC 2104) over SHA-256 (FIPS 180-4). Key and body may have any length.
-#[tactic(auto, unfolding(crate::specs::Hmac::hmac_of))]
 pub fn hmac(key: &[u8], body: &[u8]) -> [u8; 32]
     ensures { result ≡ hmac_of key.now body.now }
 {
-    let block = block_key(key);
-    let inner = digest_of_parts(&masked(&block, INNER_PAD), body);
-    digest_of_parts(&masked(&block, OUTER_PAD), &inner)
+    PreparedKey::new(key).tag(body)
 }
 
-// The digest of a block followed by the rest of a message.
-fn digest_of_parts(block: &[u8; BLOCK], rest: &[u8]) -> [u8; 32]
-    ensures { result ≡ sha256 (block.now ++ rest.now) }
+// A hash that has taken in this block.
+fn begun(block: &[u8; BLOCK]) -> Sha256
+    ensures { Holds256 result block.now }
 {
     let mut hasher = Sha256::new();
     hasher.update(block);
-    hasher.update(rest);
-    hasher.finalize()
+    hasher
+}
+
+fn copied(hasher: &Sha256) -> Sha256
+    ensures { result ≡ hasher.now }
+{
+    match hasher.clone() {
+        Ok(copy) => copy,
+        Err(_) => unreachable!(),
+    }
 }
 
 // The key as one block: a key longer than a block is hashed first.

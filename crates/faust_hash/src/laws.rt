@@ -1,7 +1,7 @@
 //! What the definitions of `specs/` keep. Each function has an empty body, and its contract is the law.
 ghost use Rattle.std.specs.Prelude.{◌≡◌, ◌<◌, ◌↔◌, ℕ, List, Option, true, length, IfSome};
 ghost use Rattle.std.specs.List.{All};
-ghost use Rattle.faust_hash.specs.Chain.{chain_input, link, value_digest_of, value_input};
+ghost use Rattle.faust_hash.specs.Chain.{chain_input, input_digest, link, value_digest_of, value_input};
 ghost use Rattle.faust_hash.specs.Hmac.{hmac_of};
 ghost use Rattle.faust_hash.specs.Tag.{is_same};
 
@@ -24,6 +24,21 @@ pub fn link_has_32_bytes()
 pub fn value_digest_has_32_bytes()
     ensures len { (value : List ℕ) → length (value_digest_of value) ≡ 32 }
     ensures bytes { (value : List ℕ) → All (λ byte. byte < 256) (value_digest_of value) }
+{}
+
+/// The digest of any hashed input has 32 bytes.
+#[tactic(auto, using(crate::proofs::Sizes::input_length, crate::proofs::Sizes::input_bytes))]
+pub fn input_digest_has_32_bytes()
+    ensures len { (input : List ℕ) → length (input_digest input) ≡ 32 }
+    ensures bytes { (input : List ℕ) → All (λ byte. byte < 256) (input_digest input) }
+{}
+
+/// The digest of a chain, and of a value, is the digest of what is hashed of it. So two of them that agree without
+/// their inputs agreeing are two inputs of one digest.
+#[tactic(auto, using(crate::proofs::Inputs::link_of_input, crate::proofs::Inputs::value_digest_of_input))]
+pub fn digests_are_of_their_inputs()
+    ensures chain { (before : Option (List ℕ)) (k : ℕ) → link before k ≡ input_digest (chain_input before k) }
+    ensures value { (value : List ℕ) → value_digest_of value ≡ input_digest (value_input value) }
 {}
 
 /// What is hashed of a chain is never what is hashed of a value.

@@ -1,17 +1,19 @@
-//! The digests and tags of the protocol, over SHA-256: `hmac` gives a message's tag, `same` compares two
-//! tags, `chain` gives the digest of a list of clients step by step, and `value_digest` that of a value.
-//! Each call takes no memory, always succeeds, and returns exactly what a definition in `specs/` says: read
-//! `Hmac` first, then `Chain`. `laws` states what those definitions keep. That SHA-256 has no collisions is
-//! no promise of this crate.
+//! The digests and tags of the protocol, over SHA-256: `hmac` gives a message's tag, a `PreparedKey` the tags
+//! of many messages under one key, `same` compares two tags, `chain` gives the digest of a list of clients step
+//! by step, `value_digest` that of a value, and `input_digest` that of any hashed input. Each call takes no
+//! memory, always succeeds, and returns exactly what a definition in `specs/` says: read `Hmac` first, then
+//! `Chain`. `laws` states what those definitions keep. That SHA-256 has no collisions is no promise of this
+//! crate.
 #![tactic(auto)]
 
 mod compare;
 mod digests;
+mod ghost_bytes;
 mod keyed;
 pub mod laws;
 #[cfg(test)]
 mod tests;
 
 pub use compare::same;
-pub use digests::{chain, value_digest};
-pub use keyed::hmac;
+pub use digests::{chain, input_digest, value_digest};
+pub use keyed::{PreparedKey, hmac};

@@ -1,4 +1,4 @@
-use crate::{chain, hmac, same, value_digest};
+use crate::{PreparedKey, chain, hmac, input_digest, same, value_digest};
 
 // The test cases of RFC 4231 in their order, the fifth of which tells the first 16 bytes alone. Then keys of no
 // byte, of a whole block and of one byte more, which Python's `hmac` gave the tags of.
@@ -60,9 +60,12 @@ fn tags_of_rfc_4231_and_at_the_ends_of_a_block(rt: HostRuntime) {
         ),
     ];
     for (key, body, tag) in &cases {
-        let got = hmac(key, body);
-        assert!(rt; tag.len() <= 32);
-        assert_eq!(rt; &got[..tag.len()], *tag);
+        let prepared = PreparedKey::new(key);
+        let copy = prepared.copy();
+        for got in [hmac(key, body), prepared.tag(body), copy.tag(body)] {
+            assert!(rt; tag.len() <= 32);
+            assert_eq!(rt; &got[..tag.len()], *tag);
+        }
     }
 }
 
@@ -101,6 +104,14 @@ fn digests_of_values(rt: HostRuntime) {
     for (value, digest) in &cases {
         assert_eq!(rt; value_digest(value), **digest);
     }
+}
+
+// The digest of "abc" that FIPS 180-4 gives.
+#[test]
+fn a_digest_of_any_input(rt: HostRuntime) {
+    let digest =
+        *b"\xba\x78\x16\xbf\x8f\x01\xcf\xea\x41\x41\x40\xde\x5d\xae\x22\x23\xb0\x03\x61\xa3\x96\x17\x7a\x9c\xb4\x10\xff\x61\xf2\x00\x15\xad";
+    assert_eq!(rt; input_digest(b"abc"), digest);
 }
 
 #[test]

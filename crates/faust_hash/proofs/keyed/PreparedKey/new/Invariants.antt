@@ -1,0 +1,5 @@
+use Rattle.faust_hash.proofs.keyed.PreparedKey.new.Given as goal
+
+-- the key that was passed
+abbrev pub ghost-of : goal.ghost-of
+ghost-of a = a.source.now.now
