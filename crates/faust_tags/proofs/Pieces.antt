@@ -61,27 +61,34 @@ numbers_before [] [] s t n _ _ h = (refl, h)
 numbers_before [] (y ∷ ys) s t n _ _ h = absurd (omega arith)
 numbers_before (x ∷ xs) [] s t n _ _ h = absurd (omega arith)
 numbers_before (x ∷ xs) (y ∷ ys) s t n x_below y_below h =
-    let grouped : be64 x ++ (flat_map be64 xs ++ s) ≡ be64 y ++ (flat_map be64 ys ++ t) =
+    let xs_rest = flat_map be64 xs ++ s in
+    let ys_rest = flat_map be64 ys ++ t in
+    let grouped : be64 x ++ xs_rest ≡ be64 y ++ ys_rest =
     sym (append_assoc (be64 x) (flat_map be64 xs) s) ∙ h ∙ append_assoc (be64 y) (flat_map be64 ys) t in
-    let first = same_pieces (be64 x) (flat_map be64 xs ++ s) (be64 y) (flat_map be64 ys ++ t) (be64_length x ∙ sym (be64_length y)) grouped in
+    let first = same_pieces (be64 x) xs_rest (be64 y) ys_rest (be64_length x ∙ sym (be64_length y)) grouped in
     let heads : x ≡ y = be64_tells x y (x_below 0 (omega arith)) (y_below 0 (omega arith)) first.0 in
     let rest : (xs ≡ ys) × (s ≡ t) =
-    numbers_before xs ys s t (omega arith) (λ i lt. x_below (suc i) (omega (arith, lt))) (λ i lt. y_below (suc i) (omega (arith, lt))) first.1 in
+    numbers_before xs ys s t (omega arith)
+    (λ i lt. x_below (suc i) (omega (arith, lt))) (λ i lt. y_below (suc i) (omega (arith, lt))) first.1 in
     let tails : xs ≡ ys = rest.0 in
     (cc, rest.1)
 
 pub optionals_before : (ds es : List (Option (List ℕ))) (s t : List ℕ) → length ds ≡ length es →
-    ((i : ℕ) → i < length ds → IfSome (get_or ds i None) IsDigest) → ((i : ℕ) → i < length es → IfSome (get_or es i None) IsDigest) →
+    ((i : ℕ) → i < length ds → IfSome (get_or ds i None) IsDigest) →
+    ((i : ℕ) → i < length es → IfSome (get_or es i None) IsDigest) →
     flat_map optional ds ++ s ≡ flat_map optional es ++ t → (ds ≡ es) × (s ≡ t)
 optionals_before [] [] s t n _ _ h = (refl, h)
 optionals_before [] (e ∷ es) s t n _ _ h = absurd (omega arith)
 optionals_before (d ∷ ds) [] s t n _ _ h = absurd (omega arith)
 optionals_before (d ∷ ds) (e ∷ es) s t n d_sized e_sized h =
-    let grouped : optional d ++ (flat_map optional ds ++ s) ≡ optional e ++ (flat_map optional es ++ t) =
+    let ds_rest = flat_map optional ds ++ s in
+    let es_rest = flat_map optional es ++ t in
+    let grouped : optional d ++ ds_rest ≡ optional e ++ es_rest =
     sym (append_assoc (optional d) (flat_map optional ds) s) ∙ h ∙ append_assoc (optional e) (flat_map optional es) t in
-    let first = optional_before d e (flat_map optional ds ++ s) (flat_map optional es ++ t) (d_sized 0 (omega arith)) (e_sized 0 (omega arith)) grouped in
+    let first = optional_before d e ds_rest es_rest (d_sized 0 (omega arith)) (e_sized 0 (omega arith)) grouped in
     let heads : d ≡ e = first.0 in
     let rest : (ds ≡ es) × (s ≡ t) =
-    optionals_before ds es s t (omega arith) (λ i lt. d_sized (suc i) (omega (arith, lt))) (λ i lt. e_sized (suc i) (omega (arith, lt))) first.1 in
+    optionals_before ds es s t (omega arith)
+    (λ i lt. d_sized (suc i) (omega (arith, lt))) (λ i lt. e_sized (suc i) (omega (arith, lt))) first.1 in
     let tails : ds ≡ es = rest.0 in
     (cc, rest.1)

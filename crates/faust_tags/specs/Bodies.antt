@@ -1,4 +1,5 @@
--- The five bodies that a client tags, and the tag of a body. A body begins with the number of its kind.
+-- The five bodies that a client tags, and the tag of a body: every promise on tags rests on them. A body begins with
+-- the number of its kind.
 use Rattle.std.specs.Prelude.{ℕ, List, ◌∷◌, ◌++◌, Option}
 use Rattle.faust_hash.specs.Hmac.{hmac_of}
 use Rattle.faust_types.specs.Spelling.{be64, kind_byte, optional, peer_front, version_bytes}
@@ -22,7 +23,7 @@ commit_body maker version = 3 ∷ maker ∷ clients_of version ∷ version_bytes
 unfoldable pub proof_body : ℕ → List ℕ → List ℕ
 proof_body maker digest = 4 ∷ maker ∷ digest
 
--- A message between clients, as it stands on the wire up to its tag; the wire's version is 1.
+-- A message between clients, spelled up to its tag as under version 1 of the wire, whichever version it goes by.
 unfoldable pub peer_body : PeerMessage → List ℕ
 peer_body message = 5 ∷ peer_front 1 message
 

@@ -1,7 +1,8 @@
 ghost use Rattle.std.specs.Prelude.{◌≡◌, IfOk};
 ghost use Rattle.faust_tags.specs.Bodies.{commit_body, tag_of};
 
-use faust_hash::hmac;
+use faust_hash::PreparedKey;
+use faust_types::spelling::version_room;
 use faust_types::{Bytes, OutOfMemory, Tag, Version};
 use std::alloc::Global;
 
@@ -17,8 +18,20 @@ pub fn commit_tag(
 ) -> Result<Tag, OutOfMemory>
     ensures { IfOk result (λ tag. tag ≡ tag_of key.now (commit_body maker version.now)) }
 {
+    commit_tag_under(alloc, &PreparedKey::new(key), maker, version)
+}
+
+/// `commit_tag` under a prepared key.
+pub fn commit_tag_under(
+    alloc: Global,
+    key: &PreparedKey,
+    maker: u8,
+    version: &Version,
+) -> Result<Tag, OutOfMemory>
+    ensures { IfOk result (λ tag. tag ≡ tag_of key.now (commit_body maker version.now)) }
+{
     let body = commit_body(alloc, maker, version)?;
-    Ok(hmac(key, body.as_slice()))
+    Ok(key.tag(body.as_slice()))
 }
 
 /// The bytes that `commit_tag` tags: for n clients at most 3 + 41 n of them.
@@ -28,7 +41,7 @@ pub fn commit_body(alloc: Global, maker: u8, version: &Version) -> Result<Bytes,
 {
     let n = version.clients();
     let mut body = Bytes::new(alloc);
-    body.reserve(3 + 41 * usize::from(n))?;
+    body.reserve(3 + version_room(n))?;
     body.append(&[COMMIT, maker, n])?;
     version.put(&mut body)?;
     Ok(body)

@@ -1,10 +1,12 @@
-//! What a body tells. Each function has an empty body, and its contract is the law.
+//! What a body tells, and the sizes of tags and digests. Each function has an empty body, and its contract is the law.
 ghost use Rattle.std.specs.Prelude.{◌≡◌, ℕ, ◌^◌, ◌<◌, List, Option};
+ghost use Rattle.faust_types.specs.Bytes.{IsDigest};
 ghost use Rattle.faust_types.specs.Ranges.{IsPeerMessageFor, IsVersionFor};
 ghost use Rattle.faust_types.specs.Versions.{Vector};
 ghost use Rattle.faust_types.specs.declared.operation.Kind.{Kind};
 ghost use Rattle.faust_types.specs.declared.message.PeerMessage.{PeerMessage};
-ghost use Rattle.faust_tags.specs.Bodies.{commit_body, data_body, peer_body, proof_body, submit_body};
+ghost use Rattle.faust_hash.specs.Chain.{input_digest, link, value_digest_of};
+ghost use Rattle.faust_tags.specs.Bodies.{commit_body, data_body, peer_body, proof_body, submit_body, tag_of};
 
 /// The body of a SUBMIT tells its maker, and the operation's kind, register and number.
 #[tactic(auto, using(crate::proofs::Fields::submit_maker, crate::proofs::Fields::submit_kind, crate::proofs::Fields::submit_register, crate::proofs::Fields::submit_number))]
@@ -67,4 +69,13 @@ pub fn other_bodies_are_apart()
     ensures commit_proof { (i j : ℕ) (v : Vector) (d : List ℕ) → commit_body i v ≡ proof_body j d → ⊥ }
     ensures commit_peer { (i : ℕ) (v : Vector) (m : PeerMessage) → commit_body i v ≡ peer_body m → ⊥ }
     ensures proof_peer { (i : ℕ) (d : List ℕ) (m : PeerMessage) → proof_body i d ≡ peer_body m → ⊥ }
+{}
+
+/// A tag has 32 bytes, and so has the digest of a hashed input, of a chain and of a value: they are in the ranges of
+/// messages.
+pub fn tags_and_digests_are_in_range()
+    ensures tag { (key body : List ℕ) → IsDigest (tag_of key body) }
+    ensures input { (input : List ℕ) → IsDigest (input_digest input) }
+    ensures chain { (before : Option (List ℕ)) (k : ℕ) → IsDigest (link before k) }
+    ensures value { (value : List ℕ) → IsDigest (value_digest_of value) }
 {}

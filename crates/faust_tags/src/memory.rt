@@ -2,27 +2,29 @@ ghost use Rattle.std.specs.Prelude.{◌≡◌, None, Some, IfOk};
 ghost use Rattle.std.specs.Option.{option_copied};
 ghost use Rattle.faust_tags.specs.Bodies.{data_body, tag_of};
 
-use faust_hash::hmac;
+use faust_hash::PreparedKey;
+use faust_types::spelling::{ABSENT, PRESENT};
 use faust_types::{Bytes, Digest, OutOfMemory, Tag};
 use std::alloc::Global;
 
 // The first byte of the body over a register's memory.
 const DATA: u8 = 2;
 
-// The flag where no value was written.
-const ABSENT: u8 = 0;
-
-// The flag before the digest of a value.
-const PRESENT: u8 = 1;
-
 /// The tag by which client `maker` says what its register holds at its operation `t`: the value whose digest
 /// is `value`, or `None` where it never wrote one.
 pub fn data_tag(key: &[u8], maker: u8, t: u64, value: Option<&Digest>) -> Tag
     ensures { result ≡ tag_of key.now (data_body maker t (option_copied value.entry)) }
 {
+    data_tag_under(&PreparedKey::new(key), maker, t, value)
+}
+
+/// `data_tag` under a prepared key.
+pub fn data_tag_under(key: &PreparedKey, maker: u8, t: u64, value: Option<&Digest>) -> Tag
+    ensures { result ≡ tag_of key.now (data_body maker t (option_copied value.entry)) }
+{
     match value {
-        None => hmac(key, &unwritten_bytes(maker, t)),
-        Some(digest) => hmac(key, &written_bytes(maker, t, digest)),
+        None => key.tag(&unwritten_bytes(maker, t)),
+        Some(digest) => key.tag(&written_bytes(maker, t, digest)),
     }
 }
 

@@ -1,7 +1,7 @@
 ghost use Rattle.std.specs.Prelude.{◌≡◌, IfOk};
 ghost use Rattle.faust_tags.specs.Bodies.{proof_body, tag_of};
 
-use faust_hash::hmac;
+use faust_hash::PreparedKey;
 use faust_types::{Bytes, Digest, OutOfMemory, Tag};
 use std::alloc::Global;
 
@@ -13,7 +13,14 @@ const PROOF: u8 = 4;
 pub fn proof_tag(key: &[u8], maker: u8, d: &Digest) -> Tag
     ensures { result ≡ tag_of key.now (proof_body maker d.now) }
 {
-    hmac(key, &proof_bytes(maker, d))
+    proof_tag_under(&PreparedKey::new(key), maker, d)
+}
+
+/// `proof_tag` under a prepared key.
+pub fn proof_tag_under(key: &PreparedKey, maker: u8, d: &Digest) -> Tag
+    ensures { result ≡ tag_of key.now (proof_body maker d.now) }
+{
+    key.tag(&proof_bytes(maker, d))
 }
 
 /// The bytes that `proof_tag` tags: 34 of them.

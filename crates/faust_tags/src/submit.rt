@@ -1,8 +1,8 @@
 ghost use Rattle.std.specs.Prelude.{◌≡◌, IfOk};
-ghost use Rattle.faust_types.specs.Spelling.{kind_byte};
 ghost use Rattle.faust_tags.specs.Bodies.{submit_body, tag_of};
 
-use faust_hash::hmac;
+use faust_hash::PreparedKey;
+use faust_types::spelling::byte_of_kind;
 use faust_types::{Bytes, Kind, OutOfMemory, Tag};
 use std::alloc::Global;
 
@@ -13,7 +13,14 @@ const SUBMIT: u8 = 1;
 pub fn submit_tag(key: &[u8], maker: u8, kind: Kind, register: u8, t: u64) -> Tag
     ensures { result ≡ tag_of key.now (submit_body maker kind register t) }
 {
-    hmac(key, &submit_bytes(maker, kind, register, t))
+    submit_tag_under(&PreparedKey::new(key), maker, kind, register, t)
+}
+
+/// `submit_tag` under a prepared key.
+pub fn submit_tag_under(key: &PreparedKey, maker: u8, kind: Kind, register: u8, t: u64) -> Tag
+    ensures { result ≡ tag_of key.now (submit_body maker kind register t) }
+{
+    key.tag(&submit_bytes(maker, kind, register, t))
 }
 
 /// The bytes that `submit_tag` tags: 12 of them.
@@ -37,13 +44,4 @@ fn submit_bytes(maker: u8, kind: Kind, register: u8, t: u64) -> [u8; 12]
     body[..4].copy_from_slice(&[SUBMIT, maker, byte_of_kind(kind), register]);
     body[4..].copy_from_slice(&t.to_be_bytes());
     body
-}
-
-fn byte_of_kind(kind: Kind) -> u8
-    ensures { result ≡ kind_byte kind }
-{
-    match kind {
-        Kind::Write => 1,
-        Kind::Read => 2,
-    }
 }

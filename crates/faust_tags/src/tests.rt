@@ -1,13 +1,15 @@
 use crate::{
-    commit_body, commit_tag, data_body, data_tag, peer_body, peer_tag, proof_body, proof_tag,
-    submit_body, submit_tag,
+    commit_body, commit_tag, commit_tag_under, data_body, data_tag, data_tag_under, peer_body,
+    peer_tag, peer_tag_under, proof_body, proof_tag, proof_tag_under, submit_body, submit_tag,
+    submit_tag_under,
 };
+use faust_hash::PreparedKey;
 use faust_types::{Kind, Known, OutOfMemory, Peer, PeerMessage, Tag, Version};
 use std::alloc::Global;
 use std::test::Fail;
 
 // Each body is written out by hand, with digests of the letter d or e throughout; Python's `hmac` gave the tag
-// under this key.
+// under this key. A prepared key gives the same.
 const KEY: &[u8] = &[0, 1, 2, 3, 4, 5, 6, 7, 8, 9, 10, 11, 12, 13, 14, 15];
 
 #[test]
@@ -36,6 +38,8 @@ fn submit_bodies_and_tags(rt: HostRuntime) -> Result<(), Fail> {
             body
         );
         assert_eq!(rt; submit_tag(KEY, maker, kind, register, t), tag);
+        let key = PreparedKey::new(KEY);
+        assert_eq!(rt; submit_tag_under(&key, maker, kind, register, t), tag);
     }
     Ok(())
 }
@@ -61,6 +65,10 @@ fn data_bodies_and_tags(rt: HostRuntime) -> Result<(), Fail> {
     for (maker, t, value, body, tag) in cases {
         assert_eq!(rt; data_body(rt.alloc(), maker, t, value)?.as_slice(), body);
         assert_eq!(rt; data_tag(KEY, maker, t, value), tag);
+        assert_eq!(rt;
+            data_tag_under(&PreparedKey::new(KEY), maker, t, value),
+            tag
+        );
     }
     Ok(())
 }
@@ -72,6 +80,10 @@ fn a_proof_body_and_its_tag(rt: HostRuntime) -> Result<(), Fail> {
         *b"\x29\x2f\x55\xde\x02\xe8\xf2\x76\x70\x4a\x4e\x35\x71\x19\x0f\x67\x60\x99\xb1\xe6\x76\x7d\xd1\x70\x13\x4b\xb1\x15\xbb\xf3\x0a\xce";
     assert_eq!(rt; proof_body(rt.alloc(), 3, &[b'd'; 32])?.as_slice(), body);
     assert_eq!(rt; proof_tag(KEY, 3, &[b'd'; 32]), tag);
+    assert_eq!(rt;
+        proof_tag_under(&PreparedKey::new(KEY), 3, &[b'd'; 32]),
+        tag
+    );
     Ok(())
 }
 
@@ -114,6 +126,8 @@ fn commit_bodies_and_tags(rt: HostRuntime) -> Result<(), Fail> {
         let version = version(rt.alloc(), first, second)?;
         assert_eq!(rt; commit_body(rt.alloc(), maker, &version)?.as_slice(), body);
         assert_eq!(rt; commit_tag(rt.alloc(), KEY, maker, &version)?, tag);
+        let key = PreparedKey::new(KEY);
+        assert_eq!(rt; commit_tag_under(rt.alloc(), &key, maker, &version)?, tag);
     }
     Ok(())
 }
@@ -164,6 +178,8 @@ fn peer_bodies_and_tags(rt: HostRuntime) -> Result<(), Fail> {
     for (message, body, tag) in &cases {
         assert_eq!(rt; peer_body(rt.alloc(), 2, message)?.as_slice(), *body);
         assert_eq!(rt; peer_tag(rt.alloc(), KEY, 2, message)?, *tag);
+        let key = PreparedKey::new(KEY);
+        assert_eq!(rt; peer_tag_under(rt.alloc(), &key, 2, message)?, *tag);
     }
     Ok(())
 }
