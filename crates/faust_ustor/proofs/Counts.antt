@@ -18,18 +18,22 @@ use Rattle.faust_ustor.specs.Passed.{followed, clients_after, AreTuplesPassed, n
 pub clients-advanced : (walk : Walk) (k : ℕ) → clients_of (advanced walk k).version ≡ clients_of walk.version
 clients-advanced walk k = length-set walk.version.timestamps (k - 1) (timestamp_at walk.version k + 1)
 
-pub timestamp-advanced : (walk : Walk) (k : ℕ) → IsClient (clients_of walk.version) k → timestamp_at (advanced walk k).version k ≡ timestamp_at walk.version k + 1
+pub timestamp-advanced : (walk : Walk) (k : ℕ) → IsClient (clients_of walk.version) k
+    → timestamp_at (advanced walk k).version k ≡ timestamp_at walk.version k + 1
 timestamp-advanced walk k c = timestamp-with_entry walk.version k (timestamp_at walk.version k + 1) (link walk.digest k) c
 
-pub timestamp-advanced_other : (walk : Walk) (k j : ℕ) → 1 ≤ k → 1 ≤ j → (j ≡ k → ⊥) → timestamp_at (advanced walk k).version j ≡ timestamp_at walk.version j
-timestamp-advanced_other walk k j lk lj ne = timestamp-with_entry_other walk.version k (timestamp_at walk.version k + 1) (link walk.digest k) j lk lj ne
+pub timestamp-advanced_other : (walk : Walk) (k j : ℕ) → 1 ≤ k → 1 ≤ j → (j ≡ k → ⊥)
+    → timestamp_at (advanced walk k).version j ≡ timestamp_at walk.version j
+timestamp-advanced_other walk k j lk lj ne = timestamp-with_entry_other walk.version k (timestamp_at walk.version k + 1)
+    (link walk.digest k) j lk lj ne
 
 pub clients-followed : (walk : Walk) (tuples : List Tuple) → clients_of (followed walk tuples).version ≡ clients_of walk.version
 clients-followed walk [] = refl
 clients-followed walk (tuple ∷ rest) = clients-followed (advanced walk tuple.client) rest ∙ clients-advanced walk tuple.client
 
 -- each tuple counts one more operation of its client
-pub timestamp-followed : (n : ℕ) (walk : Walk) (tuples : List Tuple) (k : ℕ) → clients_of walk.version ≡ n → IsClient n k → AllByRecursion (IsTupleFor n) tuples
+pub timestamp-followed : (n : ℕ) (walk : Walk) (tuples : List Tuple) (k : ℕ) → clients_of walk.version ≡ n → IsClient n k
+    → AllByRecursion (IsTupleFor n) tuples
     → timestamp_at (followed walk tuples).version k ≡ timestamp_at walk.version k + tuples_by k tuples
 timestamp-followed n walk [] k sized c all = omega arith
 timestamp-followed n walk (tuple ∷ rest) k sized c all =
@@ -39,7 +43,8 @@ timestamp-followed n walk (tuple ∷ rest) k sized c all =
       | inl same ↦
           let here : IsClient (clients_of walk.version) k = record { from_one = c.from_one; to_n = omega (arith, c.to_n, sized) } in
           let one : timestamp_at (advanced walk tuple.client).version k ≡ timestamp_at walk.version k + 1 =
-          subst (λ (m : ℕ). timestamp_at (advanced walk m).version k ≡ timestamp_at walk.version k + 1) (sym same) (timestamp-advanced walk k here) in
+          subst (λ (m : ℕ). timestamp_at (advanced walk m).version k ≡ timestamp_at walk.version k + 1) (sym same)
+          (timestamp-advanced walk k here) in
           let counted : tuples_by k (tuple ∷ rest) ≡ suc (tuples_by k rest) = cond-true _ _ _ (eq-eqb _ _ same) in
           omega (arith, more, one, counted)
       | inr other ↦
@@ -49,7 +54,8 @@ timestamp-followed n walk (tuple ∷ rest) k sized c all =
     ]
 
 -- none of the tuples that pass is by the own client
-pub tuples_by-own : (key : List ℕ) (me : ℕ) (proofs : List (Option (List ℕ))) (walk : Walk) (tuples : List Tuple) → AreTuplesPassed key me proofs walk tuples → tuples_by me tuples ≡ 0
+pub tuples_by-own : (key : List ℕ) (me : ℕ) (proofs : List (Option (List ℕ))) (walk : Walk) (tuples : List Tuple)
+    → AreTuplesPassed key me proofs walk tuples → tuples_by me tuples ≡ 0
 tuples_by-own key me proofs walk [] h = refl
 tuples_by-own key me proofs walk (tuple ∷ rest) h =
     cond-false _ _ _ (ne_eqb _ _ h.0.of_another) ∙ tuples_by-own key me proofs (advanced walk tuple.client) rest h.1
@@ -66,7 +72,8 @@ timestamp-next_other n me k reply h own c other =
     let last = timestamp-advanced_other (followed (begun reply) reply.pending) me k own.from_one c.from_one other in
     last ∙ timestamp-followed n (begun reply) reply.pending k h.version_known.version_in_range.count c h.pending_in_range
 
-pub timestamp-next_own : (key : List ℕ) (n me : ℕ) (reply : Reply) → IsReplyFor n reply → IsClient n me → AreTuplesPassed key me reply.proofs (begun reply) reply.pending
+pub timestamp-next_own : (key : List ℕ) (n me : ℕ) (reply : Reply) → IsReplyFor n reply → IsClient n me
+    → AreTuplesPassed key me reply.proofs (begun reply) reply.pending
     → timestamp_at (next_of me reply) me ≡ timestamp_at reply.version.version me + 1
 timestamp-next_own key n me reply h own passed =
     let sized = h.version_known.version_in_range.count in
@@ -77,7 +84,8 @@ timestamp-next_own key n me reply h own passed =
     omega (arith, last, along, tuples_by-own key me reply.proofs (begun reply) reply.pending passed)
 
 -- the digest is that of the chain of all clients so far
-pub digest_followed : (walk : Walk) (tuples : List Tuple) (clients : List ℕ) → walk.digest ≡ chain_of clients → (followed walk tuples).digest ≡ chain_of (clients_after clients tuples)
+pub digest_followed : (walk : Walk) (tuples : List Tuple) (clients : List ℕ) → walk.digest ≡ chain_of clients
+    → (followed walk tuples).digest ≡ chain_of (clients_after clients tuples)
 digest_followed walk [] clients h = h
 digest_followed walk (tuple ∷ rest) clients h =
     digest_followed (advanced walk tuple.client) rest (tuple.client ∷ clients) (ap (λ (d : Option (List ℕ)). Some (link d tuple.client)) h)

@@ -26,7 +26,8 @@ unless-parts (Some notice) r x h = cc
 unless-from : {X : Type 0} (b : Option Notice) (r : Result X Notice) (x : X) → b ≡ None → r ≡ Ok x → unless b r ≡ Ok x
 unless-from b r x none h = ap (λ (m : Option Notice). unless m r) none ∙ h
 
-from-three : (a b c : Bool) (x y z : Notice) → a ≡ true → b ≡ true → c ≡ true → (if not a then Some x else if not b then Some y else if not c then Some z else None) ≡ None
+from-three : (a b c : Bool) (x y z : Notice) → a ≡ true → b ≡ true → c ≡ true
+    → (if not a then Some x else if not b then Some y else if not c then Some z else None) ≡ None
 from-three true true true x y z p q r = refl
 from-three true true false x y z p q r = cc
 from-three true false c x y z p q r = cc
@@ -39,14 +40,17 @@ record AllFour (a b c d : Bool) : Type 0 where
   third : c ≡ true
   fourth : d ≡ true
 
-none-four : (a b c d : Bool) (x y z u : Notice) → (if not a then Some x else if not b then Some y else if not c then Some z else if not d then Some u else None) ≡ None → AllFour a b c d
+none-four : (a b c d : Bool) (x y z u : Notice)
+    → (if not a then Some x else if not b then Some y else if not c then Some z else if not d then Some u else None) ≡ None
+    → AllFour a b c d
 none-four true true true true x y z u h = record { first = refl; second = refl; third = refl; fourth = refl }
 none-four true true true false x y z u h = cc
 none-four true true false d x y z u h = cc
 none-four true false c d x y z u h = cc
 none-four false b c d x y z u h = cc
 
-from-four : (a b c d : Bool) (x y z u : Notice) → a ≡ true → b ≡ true → c ≡ true → d ≡ true → (if not a then Some x else if not b then Some y else if not c then Some z else if not d then Some u else None) ≡ None
+from-four : (a b c d : Bool) (x y z u : Notice) → a ≡ true → b ≡ true → c ≡ true → d ≡ true
+    → (if not a then Some x else if not b then Some y else if not c then Some z else if not d then Some u else None) ≡ None
 from-four true true true true x y z u p q r s = refl
 from-four true true true false x y z u p q r s = cc
 from-four true true false d x y z u p q r s = cc
@@ -54,7 +58,8 @@ from-four true false c d x y z u p q r s = cc
 from-four false b c d x y z u p q r s = cc
 
 -- one tuple
-tuple-passed : (key : List ℕ) (me : ℕ) (proofs : List (Option (List ℕ))) (q : ℕ) (walk : Walk) (tuple : Tuple) → broken_tuple key me proofs q walk tuple ≡ None → IsTuplePassed key me proofs walk tuple
+tuple-passed : (key : List ℕ) (me : ℕ) (proofs : List (Option (List ℕ))) (q : ℕ) (walk : Walk) (tuple : Tuple)
+    → broken_tuple key me proofs q walk tuple ≡ None → IsTuplePassed key me proofs walk tuple
 tuple-passed key me proofs q walk tuple h =
     let holds = tuple-holds key me proofs q walk tuple h in
     record { of_another = tuple-another key me proofs q walk tuple h; proven = holds.second; submitted = holds.third }
@@ -63,13 +68,15 @@ not-from : (b : Bool) → b ≡ false → not b ≡ true
 not-from true h = cc
 not-from false h = refl
 
-pub tuple-unbroken : (key : List ℕ) (me : ℕ) (proofs : List (Option (List ℕ))) (q : ℕ) (walk : Walk) (tuple : Tuple) → IsTuplePassed key me proofs walk tuple → broken_tuple key me proofs q walk tuple ≡ None
+pub tuple-unbroken : (key : List ℕ) (me : ℕ) (proofs : List (Option (List ℕ))) (q : ℕ) (walk : Walk) (tuple : Tuple)
+    → IsTuplePassed key me proofs walk tuple → broken_tuple key me proofs q walk tuple ≡ None
 unfolding broken_tuple
 tuple-unbroken key me proofs q walk tuple h =
     from-three _ _ _ _ _ _ (not-from (tuple.client == me) (ne_eqb tuple.client me h.of_another)) h.proven h.submitted
 
 -- all tuples
-pub record WalkedOk (key : List ℕ) (me : ℕ) (proofs : List (Option (List ℕ))) (walk : Walk) (tuples : List Tuple) (end : Walk) : Type 0 where
+pub record WalkedOk (key : List ℕ) (me : ℕ) (proofs : List (Option (List ℕ))) (walk : Walk) (tuples : List Tuple)
+    (end : Walk) : Type 0 where
   pub passed : AreTuplesPassed key me proofs walk tuples
   pub ends : end ≡ followed walk tuples
 
@@ -77,7 +84,8 @@ pub walked-passed : (key : List ℕ) (me : ℕ) (proofs : List (Option (List ℕ
     → walked key me proofs q walk tuples ≡ Ok end → WalkedOk key me proofs walk tuples end
 walked-passed key me proofs q walk [] end h = record { passed = tt; ends = cc }
 walked-passed key me proofs q walk (tuple ∷ rest) end h =
-    let parts = unless-parts (broken_tuple key me proofs q walk tuple) (walked key me proofs (q + 1) (advanced walk tuple.client) rest) end h in
+    let parts = unless-parts (broken_tuple key me proofs q walk tuple)
+    (walked key me proofs (q + 1) (advanced walk tuple.client) rest) end h in
     let more = walked-passed key me proofs (q + 1) (advanced walk tuple.client) rest end parts.given in
     record { passed = (tuple-passed key me proofs q walk tuple parts.unbroken, more.passed); ends = more.ends }
 
@@ -85,7 +93,8 @@ pub walked-from : (key : List ℕ) (me : ℕ) (proofs : List (Option (List ℕ))
     → AreTuplesPassed key me proofs walk tuples → walked key me proofs q walk tuples ≡ Ok (followed walk tuples)
 walked-from key me proofs q walk [] h = refl
 walked-from key me proofs q walk (tuple ∷ rest) h =
-    unless-from (broken_tuple key me proofs q walk tuple) (walked key me proofs (q + 1) (advanced walk tuple.client) rest) (followed (advanced walk tuple.client) rest)
+    unless-from (broken_tuple key me proofs q walk tuple) (walked key me proofs (q + 1) (advanced walk tuple.client) rest)
+    (followed (advanced walk tuple.client) rest)
     (tuple-unbroken key me proofs q walk tuple h.0) (walked-from key me proofs (q + 1) (advanced walk tuple.client) rest h.1)
 
 -- the read part
@@ -99,10 +108,12 @@ recent-from : (at t : ℕ) → (at ≡ t) ⊎ (at + 1 ≡ t) → ((at == t) || (
 recent-from at t (inl same) = or_left _ _ (eq-eqb at t same)
 recent-from at t (inr before) = or_right _ _ (eq-eqb (at + 1) t before)
 
-part-passed : (key : List ℕ) (version next : Vector) (part : ReadPart) → broken_part key version next part ≡ None → IsPartPassed key version next part
+part-passed : (key : List ℕ) (version next : Vector) (part : ReadPart) → broken_part key version next part ≡ None
+    → IsPartPassed key version next part
 unfolding broken_part
 part-passed key version next part h =
-    let four = none-four (is_known_right key part.register part.version) (is_mem_right key part.register part.mem) (is_latest next part.register part.mem) (is_recent version part.register part.version.version (time_of part.mem)) _ _ _ _ h in
+    let four = none-four (is_known_right key part.register part.version) (is_mem_right key part.register part.mem)
+    (is_latest next part.register part.mem) (is_recent version part.register part.version.version (time_of part.mem)) _ _ _ _ h in
     let last = and_parts _ _ four.fourth in
     record {
       known_right = four.first;
@@ -112,33 +123,41 @@ part-passed key version next part h =
       recent = recent-true (timestamp_at part.version.version part.register) (time_of part.mem) last.1;
     }
 
-part-unbroken : (key : List ℕ) (version next : Vector) (part : ReadPart) → IsPartPassed key version next part → broken_part key version next part ≡ None
+part-unbroken : (key : List ℕ) (version next : Vector) (part : ReadPart) → IsPartPassed key version next part
+    → broken_part key version next part ≡ None
 unfolding broken_part
 part-unbroken key version next part h =
-    from-four (is_known_right key part.register part.version) (is_mem_right key part.register part.mem) (is_latest next part.register part.mem) (is_recent version part.register part.version.version (time_of part.mem)) _ _ _ _
+    from-four (is_known_right key part.register part.version) (is_mem_right key part.register part.mem)
+    (is_latest next part.register part.mem) (is_recent version part.register part.version.version (time_of part.mem)) _ _ _ _
     h.known_right h.mem_right (eq-eqb _ _ h.latest)
-    (and_from _ _ ((is_at_most-means part.version.version version).1 h.at_most) (recent-from (timestamp_at part.version.version part.register) (time_of part.mem) h.recent))
+    (and_from _ _ ((is_at_most-means part.version.version version).1 h.at_most)
+    (recent-from (timestamp_at part.version.version part.register) (time_of part.mem) h.recent))
 
 record AnsweredOk (key : List ℕ) (version next : Vector) (read : Option ReadPart) (judged : Judged) : Type 0 where
   passed : IfSome read (IsPartPassed key version next)
   tells : judged ≡ told_of next read
 
-answered-passed : (key : List ℕ) (version next : Vector) (read : Option ReadPart) (judged : Judged) → answered key version next read ≡ Ok judged → AnsweredOk key version next read judged
+answered-passed : (key : List ℕ) (version next : Vector) (read : Option ReadPart) (judged : Judged)
+    → answered key version next read ≡ Ok judged → AnsweredOk key version next read judged
 answered-passed key version next None judged h = record { passed = tt; tells = cc }
 answered-passed key version next (Some part) judged h =
     let parts = unless-parts (broken_part key version next part) (Ok (told_of next (Some part))) judged h in
     let given = parts.given in
     record { passed = part-passed key version next part parts.unbroken; tells = cc }
 
-answered-from : (key : List ℕ) (version next : Vector) (read : Option ReadPart) → IfSome read (IsPartPassed key version next) → answered key version next read ≡ Ok (told_of next read)
+answered-from : (key : List ℕ) (version next : Vector) (read : Option ReadPart) → IfSome read (IsPartPassed key version next)
+    → answered key version next read ≡ Ok (told_of next read)
 answered-from key version next None h = refl
-answered-from key version next (Some part) h = unless-from (broken_part key version next part) (Ok (told_of next (Some part))) (told_of next (Some part)) (part-unbroken key version next part h) refl
+answered-from key version next (Some part) h = unless-from (broken_part key version next part) (Ok (told_of next (Some part)))
+    (told_of next (Some part)) (part-unbroken key version next part h) refl
 
 -- checks 3 to 5
-pub base-unbroken : (key : List ℕ) (me : ℕ) (own : Vector) (op : Operation) (reply : Reply) → IsPassed key me own op reply → broken_base key me own op reply ≡ None
+pub base-unbroken : (key : List ℕ) (me : ℕ) (own : Vector) (op : Operation) (reply : Reply) → IsPassed key me own op reply
+    → broken_base key me own op reply ≡ None
 unfolding broken_base
 base-unbroken key me own op reply h =
-    from-three (is_part_for op.kind op.register reply.read) (is_known_right key reply.c reply.version) (is_own_kept me own reply.version.version) _ _ _ h.part_fits h.known_right
+    from-three (is_part_for op.kind op.register reply.read) (is_known_right key reply.c reply.version)
+    (is_own_kept me own reply.version.version) _ _ _ h.part_fits h.known_right
     (and_from _ _ ((is_at_most-means own reply.version.version).1 h.own_at_most) (eq-eqb _ _ h.own_counted))
 
 -- after the tuples
@@ -147,20 +166,32 @@ record CompletedOk (key : List ℕ) (me : ℕ) (reply : Reply) (w : Result Walk 
   came : w ≡ Ok walk
   answers : answered key reply.version.version (advanced walk me).version reply.read ≡ Ok judged
 
-completed-parts : (key : List ℕ) (me : ℕ) (reply : Reply) (w : Result Walk Notice) (judged : Judged) → completed key me reply w ≡ Ok judged → CompletedOk key me reply w judged
+completed-parts : (key : List ℕ) (me : ℕ) (reply : Reply) (w : Result Walk Notice) (judged : Judged) → completed key me reply w ≡ Ok judged
+    → CompletedOk key me reply w judged
 completed-parts key me reply (Ok walk) judged h = record { walk = walk; came = refl; answers = h }
 completed-parts key me reply (Err notice) judged h = cc
+
+-- after checks 3 to 8 the answer is that of the read part
+pub judged-reached : (key : List ℕ) (me : ℕ) (own : Vector) (op : Operation) (reply : Reply) (walk : Walk)
+    → broken_base key me own op reply ≡ None → walked key me reply.proofs 1 (begun reply) reply.pending ≡ Ok walk
+    → judged key me own op reply ≡ answered key reply.version.version (advanced walk me).version reply.read
+unfolding judged
+judged-reached key me own op reply walk none came =
+    ap (λ (b : Option Notice). unless b (completed key me reply (walked key me reply.proofs 1 (begun reply) reply.pending))) none
+    ∙ ap (completed key me reply) came
 
 -- what passes breaks no check, and tells what is due
 pub record JudgedOk (key : List ℕ) (me : ℕ) (own : Vector) (op : Operation) (reply : Reply) (judged : Judged) : Type 0 where
   pub passed : IsPassed key me own op reply
   pub tells : judged ≡ told me reply
 
-pub judged-passed : (key : List ℕ) (me : ℕ) (own : Vector) (op : Operation) (reply : Reply) (j : Judged) → judged key me own op reply ≡ Ok j → JudgedOk key me own op reply j
+pub judged-passed : (key : List ℕ) (me : ℕ) (own : Vector) (op : Operation) (reply : Reply) (j : Judged)
+    → judged key me own op reply ≡ Ok j → JudgedOk key me own op reply j
 unfolding judged
 judged-passed key me own op reply j h =
     let version = reply.version.version in
-    let parts = unless-parts (broken_base key me own op reply) (completed key me reply (walked key me reply.proofs 1 (begun reply) reply.pending)) j h in
+    let parts = unless-parts (broken_base key me own op reply)
+    (completed key me reply (walked key me reply.proofs 1 (begun reply) reply.pending)) j h in
     let base = base-holds key me own op reply parts.unbroken in
     let kept = and_parts _ _ base.third in
     let done = completed-parts key me reply (walked key me reply.proofs 1 (begun reply) reply.pending) j parts.given in
@@ -181,9 +212,11 @@ judged-passed key me own op reply j h =
     }
 
 -- what breaks no check passes
-pub judged-from : (key : List ℕ) (me : ℕ) (own : Vector) (op : Operation) (reply : Reply) → IsPassed key me own op reply → judged key me own op reply ≡ Ok (told me reply)
+pub judged-from : (key : List ℕ) (me : ℕ) (own : Vector) (op : Operation) (reply : Reply) → IsPassed key me own op reply
+    → judged key me own op reply ≡ Ok (told me reply)
 unfolding judged
 judged-from key me own op reply h =
-    unless-from (broken_base key me own op reply) (completed key me reply (walked key me reply.proofs 1 (begun reply) reply.pending)) (told me reply) (base-unbroken key me own op reply h)
+    unless-from (broken_base key me own op reply) (completed key me reply (walked key me reply.proofs 1 (begun reply) reply.pending))
+    (told me reply) (base-unbroken key me own op reply h)
     (ap (completed key me reply) (walked-from key me reply.proofs 1 (begun reply) reply.pending h.tuples_passed)
     ∙ answered-from key reply.version.version (next_of me reply) reply.read h.part_passed)

@@ -31,21 +31,26 @@ digest-link before k = record {
 }
 
 -- the version after one more operation of client k
-pub in_range-advanced : (n : ℕ) (walk : Walk) (k : ℕ) → IsVersionFor n walk.version → IsClient n k → timestamp_at walk.version k + 1 < 2 ^ 40
+pub in_range-advanced : (n : ℕ) (walk : Walk) (k : ℕ) → IsVersionFor n walk.version → IsClient n k
+    → timestamp_at walk.version k + 1 < 2 ^ 40
     → IsVersionFor n (advanced walk k).version
 in_range-advanced n walk k h c room =
-    in_range-with_entry n walk.version k (timestamp_at walk.version k + 1) (link walk.digest k) h c (omega arith) room (digest-link walk.digest k)
+    in_range-with_entry n walk.version k (timestamp_at walk.version k + 1) (link walk.digest k) h c (omega arith) room
+    (digest-link walk.digest k)
 
-pub not_initial-advanced : (n : ℕ) (walk : Walk) (k : ℕ) → IsVersionFor n walk.version → IsClient n k → is_initial (advanced walk k).version ≡ false
+pub not_initial-advanced : (n : ℕ) (walk : Walk) (k : ℕ) → IsVersionFor n walk.version → IsClient n k
+    → is_initial (advanced walk k).version ≡ false
 not_initial-advanced n walk k h c =
-    not_initial-with_entry walk.version k (timestamp_at walk.version k + 1) (link walk.digest k) (record { from_one = c.from_one; to_n = omega (arith, c.to_n, h.count) }) (omega arith)
+    not_initial-with_entry walk.version k (timestamp_at walk.version k + 1) (link walk.digest k)
+    (record { from_one = c.from_one; to_n = omega (arith, c.to_n, h.count) }) (omega arith)
 
 -- one more operation of another client
 pub walk_for-advanced : (n me t : ℕ) (walk : Walk) (k : ℕ) → IsWalkFor n me t walk → IsClient n k → IsClient n me → (k ≡ me → ⊥)
     → timestamp_at walk.version k + 1 < 2 ^ 40 → IsWalkFor n me t (advanced walk k)
 walk_for-advanced n me t walk k h c own other room = record {
   version_in_range = in_range-advanced n walk k h.version_in_range c room;
-  own_kept = timestamp-with_entry_other walk.version k (timestamp_at walk.version k + 1) (link walk.digest k) me c.from_one own.from_one (λ e. other (sym e)) ∙ h.own_kept;
+  own_kept = timestamp-with_entry_other walk.version k (timestamp_at walk.version k + 1) (link walk.digest k) me c.from_one
+      own.from_one (λ e. other (sym e)) ∙ h.own_kept;
 }
 
 -- the same, from each element

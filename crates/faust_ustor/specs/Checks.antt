@@ -1,5 +1,5 @@
--- The checks 3 to 12 that a client makes of the reply to its operation, in their order. The first definitions
--- are the conditions, one a check; then comes the walk over the pending tuples; `judged` stands at the end.
+-- The checks 3 to 12 that a client makes of the reply to its operation, in their order: the conditions, one a
+-- check, then the walk over the pending tuples, and at the end `judged`. The promise of `judge` rests on them.
 use Rattle.std.specs.Prelude.{◌≡◌, ℕ, ◌+◌, ◌-◌, ◌^◌, ◌==◌, ◌&&◌, ◌||◌, Bool, true, false, not, if◌then◌else◌, List, [], ◌∷◌, Option, Some, None, Result, Ok, Err, nat_lt, slice_index_or}
 use Rattle.faust_types.specs.Versions.{Vector, timestamp_at, digest_at, stepped, is_at_most, is_initial}
 use Rattle.faust_types.specs.Messages.{value_of}
@@ -39,18 +39,21 @@ is_own_kept me own version = is_at_most own version && (timestamp_at own me == t
 abbrev pub is_of_another : ℕ → Tuple → Bool
 is_of_another me tuple = not (tuple.client == me)
 
--- Check 7: the digest held for the tuple's client is absent, or the client's proof tag over it is right.
+-- The proof tag of client k, if there is one.
 abbrev pub proof_at : List (Option (List ℕ)) → ℕ → Option (List ℕ)
 proof_at proofs k = slice_index_or proofs (k - 1) None
 
+-- The tag is there, and is the right proof tag of client k over the digest.
 abbrev pub is_proof_of : List ℕ → ℕ → List ℕ → Option (List ℕ) → Bool
 is_proof_of key k digest None = false
 is_proof_of key k digest (Some proof) = is_same proof (tag_of key (proof_body k digest))
 
+-- The digest of client k is absent, or its proof tag over it is right.
 abbrev pub is_digest_proven : List ℕ → ℕ → Option (List ℕ) → Option (List ℕ) → Bool
 is_digest_proven key k None proof = true
 is_digest_proven key k (Some digest) proof = is_proof_of key k digest proof
 
+-- Check 7: the digest held for the tuple's client is absent, or the client's proof tag over it is right.
 abbrev pub is_proven : List ℕ → List (Option (List ℕ)) → Vector → ℕ → Bool
 is_proven key proofs version k = is_digest_proven key k (digest_at version k) (proof_at proofs k)
 
@@ -60,20 +63,22 @@ is_next_submitted key version tuple =
     nat_lt (timestamp_at version tuple.client + 1) (2 ^ 40)
     && is_same tuple.tag (tag_of key (submit_body tuple.client tuple.kind tuple.register (timestamp_at version tuple.client + 1)))
 
--- Check 10: nothing is in memory, or its client's data tag is right over its timestamp and its value.
+-- The digest of a value, if there is one.
 abbrev pub digest_of : Option (List ℕ) → Option (List ℕ)
 digest_of None = None
 digest_of (Some value) = Some (value_digest_of value)
 
+-- Check 10: nothing is in memory, or its client's data tag is right over its timestamp and its value.
 abbrev pub is_mem_right : List ℕ → ℕ → Option Mem → Bool
 is_mem_right key j None = true
 is_mem_right key j (Some mem) = is_same mem.tag (tag_of key (data_body j mem.t (digest_of mem.value)))
 
--- Check 11: the memory is as of the last operation of j that the next version counts.
+-- The timestamp of the memory: 0 where it is nothing.
 abbrev pub time_of : Option Mem → ℕ
 time_of None = 0
 time_of (Some mem) = mem.t
 
+-- Check 11: the memory is as of the last operation of j that the next version counts.
 abbrev pub is_latest : Vector → ℕ → Option Mem → Bool
 is_latest next j mem = time_of mem == timestamp_at next j
 

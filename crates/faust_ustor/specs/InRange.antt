@@ -1,4 +1,5 @@
--- Which operation a client judges a reply to, and what ranges the walk and the answer keep.
+-- Which operation a client judges a reply to, and what ranges the walk and the answer keep. The condition and
+-- the clause `in_range` of `judge` rest on them.
 use Rattle.std.specs.Prelude.{◌≡◌, ℕ, ◌+◌, ◌^◌, ◌<◌, false, IfSome}
 use Rattle.faust_types.specs.Clients.{IsClient}
 use Rattle.faust_types.specs.Versions.{Vector, clients_of, timestamp_at, is_initial}
@@ -10,7 +11,6 @@ use Rattle.faust_ustor.specs.declared.walk.Walk.{Walk}
 -- The operation that client me waits for: the one after those that its version counts.
 pub record IsPendingOf (me : ℕ) (own : Vector) (op : Operation) : Type 0 where
   pub client_in_range : IsClient (clients_of own) me
-  pub own_operation : op.name.client ≡ me
   pub number : op.name.t ≡ timestamp_at own me + 1
   pub below : op.name.t < 2 ^ 40
 

@@ -1,4 +1,4 @@
--- What it is that a reply breaks no check, whatever their order, and what it then tells.
+-- What it is that a reply breaks no check, whatever their order, and what it then tells. The laws rest on it.
 use Rattle.std.specs.Prelude.{◌≡◌, ◌≢◌, ℕ, ◌+◌, ◌⊎◌, true, List, [], ◌∷◌, Option, Some, None, IfSome}
 use Rattle.faust_types.specs.Versions.{Vector, IsAtMost, timestamp_at}
 use Rattle.faust_types.specs.Messages.{value_of}
@@ -26,9 +26,11 @@ pub record IsTuplePassed (key : List ℕ) (me : ℕ) (proofs : List (Option (Lis
   pub proven : is_proven key proofs walk.version tuple.client ≡ true
   pub submitted : is_next_submitted key walk.version tuple ≡ true
 
+-- All tuples are, each at the walk that came to it.
 abbrev pub AreTuplesPassed : List ℕ → ℕ → List (Option (List ℕ)) → Walk → List Tuple → Type 0
 AreTuplesPassed key me proofs walk [] = Unit {0}
-AreTuplesPassed key me proofs walk (tuple ∷ rest) = IsTuplePassed key me proofs walk tuple × AreTuplesPassed key me proofs (advanced walk tuple.client) rest
+AreTuplesPassed key me proofs walk (tuple ∷ rest) =
+    IsTuplePassed key me proofs walk tuple × AreTuplesPassed key me proofs (advanced walk tuple.client) rest
 
 -- The register's client made the version and the memory, and the memory is of its last operation.
 pub record IsPartPassed (key : List ℕ) (version next : Vector) (part : ReadPart) : Type 0 where
@@ -36,7 +38,8 @@ pub record IsPartPassed (key : List ℕ) (version next : Vector) (part : ReadPar
   pub mem_right : is_mem_right key part.register part.mem ≡ true
   pub latest : time_of part.mem ≡ timestamp_at next part.register
   pub at_most : IsAtMost part.version.version version
-  pub recent : (timestamp_at part.version.version part.register ≡ time_of part.mem) ⊎ (timestamp_at part.version.version part.register + 1 ≡ time_of part.mem)
+  pub recent : (timestamp_at part.version.version part.register ≡ time_of part.mem)
+      ⊎ (timestamp_at part.version.version part.register + 1 ≡ time_of part.mem)
 
 -- The version after the operations of the tuples and the own one.
 abbrev pub next_of : ℕ → Reply → Vector

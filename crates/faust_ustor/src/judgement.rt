@@ -24,8 +24,10 @@ pub struct Judged {
     pub heard: Option<Known>,
 }
 
-/// Makes checks 3 to 12 of the reply to operation `op` of client `me`, whose version is `own`. The answer is the
-/// client's next version with what a read found, or the first broken check and its place.
+/// Makes checks 3 to 12 of the reply to operation `op` of client `me`, from 1 to n, whose version of n clients is
+/// `own`. The answer is the client's next version with what a read found, or the first broken check and its place.
+/// `op.name.t` is the own timestamp plus one, at most 2^40 - 1. `reply` is in range for n clients, as one is that
+/// was decoded.
 #[tactic(auto, unfolding(crate::specs::Checks::judged))]
 pub fn judge(
     alloc: Global,
@@ -53,7 +55,7 @@ pub fn judge(
 }
 
 #[tactic(auto, unfolding(crate::specs::Checks::broken_base))]
-fn check_base(
+pub(crate) fn check_base(
     alloc: Global,
     key: &[u8],
     me: u8,

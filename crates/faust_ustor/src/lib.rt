@@ -11,19 +11,18 @@
 // client holds, is not asked here. That nobody without the key makes a right tag is no promise of this crate.
 #![tactic(auto)]
 
-#[cfg(test)]
-mod in_range;
+mod hashing;
 mod judgement;
 pub mod laws;
 mod part;
 mod refusal;
-#[cfg(test)]
-mod replies;
 mod tags;
 #[cfg(test)]
 mod tests;
 mod verdict;
 mod walk;
 
+pub use hashing::hashed;
 pub use judgement::{Judged, judge};
 pub use refusal::JudgeError;
+pub use walk::Walk;

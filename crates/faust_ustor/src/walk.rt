@@ -1,4 +1,4 @@
-ghost use Rattle.std.specs.Prelude.{◌≡◌, ◌≢◌, ◌+◌, ◌^◌, ◌<◌, length, IfOk};
+ghost use Rattle.std.specs.Prelude.{◌≡◌, ◌≢◌, ◌+◌, ◌^◌, ◌<◌, length, is_none, IfOk};
 ghost use Rattle.faust_types.specs.Clients.{IsClient};
 ghost use Rattle.faust_types.specs.Versions.{clients_of, timestamp_at};
 ghost use Rattle.faust_types.specs.Ranges.{IsReplyFor};
@@ -21,7 +21,7 @@ pub struct Walk {
 
 impl Walk {
     /// The walk before the first tuple. It takes a copy of the version of c.
-    fn begin(reply: &Reply) -> Result<Walk, OutOfMemory>
+    pub fn begin(reply: &Reply) -> Result<Walk, OutOfMemory>
         requires { IsClient (clients_of reply.now.version.version) reply.now.c }
         ensures { IfOk result (λ walk. walk ≡ begun reply.now) }
     {
@@ -32,7 +32,7 @@ impl Walk {
         })
     }
 
-    /// One more operation of client k.
+    /// One more operation of client k, from 1 to n, whose timestamp is below 2^40 - 1.
     pub fn advance(&mut self, k: u8)
         requires client { IsClient (clients_of self.old.version) k }
         requires room { timestamp_at self.old.version k + 1 < 2 ^ 40 }
@@ -43,7 +43,7 @@ impl Walk {
         self.digest = Some(digest);
     }
 
-    /// Checks 6, 7 and 8 of tuple q.
+    // Checks 6, 7 and 8 of tuple q.
     #[tactic(auto, unfolding(crate::specs::Checks::broken_tuple))]
     fn check(
         &self,
@@ -61,6 +61,25 @@ impl Walk {
         demand(tuple.client != me, 6, q)?;
         demand(is_proven(key, proofs, &self.version, tuple.client), 7, q)?;
         demand(is_next_submitted(key, &self.version, tuple), 8, q)
+    }
+
+    // Whether tuple q breaks none of the checks 6, 7 and 8.
+    pub(crate) fn is_next(
+        &self,
+        key: &[u8],
+        me: u8,
+        proofs: &[Option<Tag>],
+        q: u32,
+        tuple: &Tuple,
+    ) -> bool
+        requires client { IsClient (clients_of self.now.version) tuple.now.client }
+        requires proofs { length proofs.now ≡ clients_of self.now.version }
+        ensures { result ≡ is_none (broken_tuple key.now me proofs.now q self.now tuple.now) }
+    {
+        match self.check(key, me, proofs, q, tuple) {
+            Ok(()) => true,
+            Err(_) => false,
+        }
     }
 }
 

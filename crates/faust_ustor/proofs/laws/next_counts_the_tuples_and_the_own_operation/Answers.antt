@@ -10,7 +10,14 @@ pub returns-clause-own : goal.returns-clause-own
 returns-clause-own c key me own op reply answer pending h told =
     let right = judged-passed key me own op reply answer told in
     let next : answer.next ≡ next_of me reply = ap (λ (j : Judged). j.next) right.tells ∙ next-told (next_of me reply) reply.read in
-    omega (arith, ap (λ (v : Vector). timestamp_at v me) next, timestamp-next_own key _ me reply h pending.client_in_range right.passed.tuples_passed, right.passed.own_counted, pending.number)
+    omega (
+      arith,
+      ap (λ (v : Vector). timestamp_at v me) next,
+      timestamp-next_own key _ me reply h pending.client_in_range
+          right.passed.tuples_passed,
+      right.passed.own_counted,
+      pending.number,
+    )
 
 pub returns-clause-others : goal.returns-clause-others
 returns-clause-others c key me own op reply answer k pending h told client other =

@@ -16,4 +16,5 @@ returns-clause-version c key me own op reply answer pending h told =
 pub returns-clause-own : goal.returns-clause-own
 returns-clause-own c key me own op reply answer pending h told =
     let right = judged-passed key me own op reply answer told in
-    at_most-trans own reply.version.version answer.next (sym h.version_known.version_in_range.count) right.passed.own_at_most (returns-clause-version c key me own op reply answer pending h told)
+    at_most-trans own reply.version.version answer.next (sym h.version_known.version_in_range.count) right.passed.own_at_most
+    (returns-clause-version c key me own op reply answer pending h told)

@@ -8,5 +8,6 @@ abbrev pub invariant-loop-before : goal.invariant-loop-before
 invariant-loop-before l = record {
   items : l.tuple-items ≡ l.reply.pending;
   walk_for : IsWalkFor (clients_of l.reply.version.version) l.me (timestamp_at l.reply.version.version l.me) l.walk;
-  rest : walked l.key l.me l.reply.proofs (l.before + 1) l.walk (drop l.before l.reply.pending) ≡ walked l.key l.me l.reply.proofs 1 (begun l.reply) l.reply.pending;
+  rest : walked l.key l.me l.reply.proofs (l.before + 1) l.walk (drop l.before l.reply.pending)
+      ≡ walked l.key l.me l.reply.proofs 1 (begun l.reply) l.reply.pending;
 }

@@ -2,7 +2,7 @@ use Rattle.std.proofs.Common.{ℕ, ◌<◌, [], get_or}
 use Rattle.faust_types.specs.Ranges.{IsTupleFor}
 use Rattle.faust_types.specs.declared.message.Tuple.{Tuple}
 use Rattle.faust_types.specs.declared.operation.Kind.TheVariants.{Write}
-use Rattle.faust_ustor.proofs.in_range.are_tuples_for.Given as goal
+use Rattle.faust_ustor.proofs.tests.in_range.are_tuples_for.Given as goal
 
 abbrev pub invariant-loop-tuple : goal.invariant-loop-tuple
 invariant-loop-tuple l =

@@ -1,6 +1,6 @@
 ghost use Rattle.faust_types.specs.Clients.{IsClientCount};
 
-use crate::in_range::is_client;
+use super::in_range::is_client;
 use crate::walk::Walk;
 use faust_hash::value_digest;
 use faust_tags::{commit_tag, data_tag, proof_tag, submit_tag};

@@ -3,7 +3,7 @@ use Rattle.faust_types.specs.Ranges.{IsTupleFor}
 use Rattle.faust_types.specs.declared.message.Tuple.{Tuple}
 use Rattle.faust_types.specs.declared.operation.Kind.TheVariants.{Write}
 use Rattle.faust_ustor.proofs.Ranges.{all-from}
-use Rattle.faust_ustor.proofs.in_range.are_tuples_for.Goals as goal
+use Rattle.faust_ustor.proofs.tests.in_range.are_tuples_for.Goals as goal
 
 pub returns : goal.returns
 returns c _ =
