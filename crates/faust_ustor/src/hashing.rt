@@ -11,6 +11,7 @@ use crate::judgement::check_base;
 use crate::refusal::JudgeError;
 use crate::tags::is_known_right;
 use crate::walk::Walk;
+use faust_hash::PreparedKey;
 use faust_types::{Bytes, Digest, Mem, Operation, OutOfMemory, ReadPart, Reply, Sequence, Version};
 use std::alloc::Global;
 
@@ -21,10 +22,26 @@ const VALUE: u8 = 0x11;
 
 /// What `judge` hashes on the same arguments besides the bodies of tags: the inputs of the digests of chains and
 /// of the value, in their order, up to and with the first broken check.
-#[tactic(auto, unfolding(crate::specs::Hashed::hashed))]
 pub fn hashed(
     alloc: Global,
     key: &[u8],
+    me: u8,
+    own: &Version,
+    op: &Operation,
+    reply: &Reply,
+) -> Result<Sequence<Bytes>, OutOfMemory>
+    requires pending { IsPendingOf me own.now op.now }
+    requires reply { IsReplyFor (clients_of own.now) reply.now }
+    ensures { IfOk result (λ inputs. inputs ≡ hashed key.now me own.now op.now reply.now) }
+{
+    hashed_under(alloc, &PreparedKey::new(key), me, own, op, reply)
+}
+
+/// The same with a key that was prepared before.
+#[tactic(auto, unfolding(crate::specs::Hashed::hashed))]
+pub fn hashed_under(
+    alloc: Global,
+    key: &PreparedKey,
     me: u8,
     own: &Version,
     op: &Operation,
@@ -54,7 +71,7 @@ pub fn hashed(
 // Whether checks 3, 4 and 5 hold.
 fn is_base_kept(
     alloc: Global,
-    key: &[u8],
+    key: &PreparedKey,
     me: u8,
     own: &Version,
     op: &Operation,
@@ -74,7 +91,7 @@ fn is_base_kept(
 // Puts what is hashed of the read part behind the inputs.
 fn put_part(
     alloc: Global,
-    key: &[u8],
+    key: &PreparedKey,
     read: &Option<ReadPart>,
     inputs: &mut Sequence<Bytes>,
 ) -> Result<(), OutOfMemory>

@@ -10,6 +10,7 @@ use crate::refusal::JudgeError;
 use crate::tags::is_known_right;
 use crate::verdict::demand;
 use crate::walk::walked;
+use faust_hash::PreparedKey;
 use faust_types::{Bytes, Kind, Known, Operation, ReadPart, Reply, Version};
 use std::alloc::Global;
 
@@ -28,10 +29,27 @@ pub struct Judged {
 /// `own`. The answer is the client's next version with what a read found, or the first broken check and its place.
 /// `op.name.t` is the own timestamp plus one, at most 2^40 - 1. `reply` is in range for n clients, as one is that
 /// was decoded.
-#[tactic(auto, unfolding(crate::specs::Checks::judged))]
 pub fn judge(
     alloc: Global,
     key: &[u8],
+    me: u8,
+    own: &Version,
+    op: &Operation,
+    reply: &Reply,
+) -> Result<Judged, JudgeError>
+    requires pending { IsPendingOf me own.now op.now }
+    requires reply { IsReplyFor (clients_of own.now) reply.now }
+    ensures checked { Gives result (judged key.now me own.now op.now reply.now) }
+    ensures in_range { IfOk result (IsJudgedFor (clients_of own.now) op.now.register) }
+{
+    judge_under(alloc, &PreparedKey::new(key), me, own, op, reply)
+}
+
+/// The same with a key that was prepared before, for a client that judges many replies.
+#[tactic(auto, unfolding(crate::specs::Checks::judged))]
+pub fn judge_under(
+    alloc: Global,
+    key: &PreparedKey,
     me: u8,
     own: &Version,
     op: &Operation,
@@ -57,7 +75,7 @@ pub fn judge(
 #[tactic(auto, unfolding(crate::specs::Checks::broken_base))]
 pub(crate) fn check_base(
     alloc: Global,
-    key: &[u8],
+    key: &PreparedKey,
     me: u8,
     own: &Version,
     op: &Operation,

@@ -22,7 +22,7 @@ mod tests;
 mod verdict;
 mod walk;
 
-pub use hashing::hashed;
-pub use judgement::{Judged, judge};
+pub use hashing::{hashed, hashed_under};
+pub use judgement::{Judged, judge, judge_under};
 pub use refusal::JudgeError;
 pub use walk::Walk;

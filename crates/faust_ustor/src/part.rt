@@ -9,6 +9,7 @@ use crate::judgement::Judged;
 use crate::refusal::JudgeError;
 use crate::tags::{is_known_right, is_mem_right};
 use crate::verdict::demand;
+use faust_hash::PreparedKey;
 use faust_types::{Bytes, Mem, OutOfMemory, ReadPart, Version};
 use std::alloc::Global;
 
@@ -16,7 +17,7 @@ use std::alloc::Global;
 /// breaks none of the checks 9 to 12.
 pub fn answered(
     alloc: Global,
-    key: &[u8],
+    key: &PreparedKey,
     version: &Version,
     next: Version,
     read: &Option<ReadPart>,
@@ -47,7 +48,7 @@ pub fn answered(
 #[tactic(auto, unfolding(crate::specs::Checks::broken_part))]
 fn check_part(
     alloc: Global,
-    key: &[u8],
+    key: &PreparedKey,
     version: &Version,
     next: &Version,
     part: &ReadPart,

@@ -8,7 +8,7 @@ ghost use Rattle.faust_ustor.specs.Checks.{advanced, begun, broken_tuple, walked
 use crate::refusal::JudgeError;
 use crate::tags::{is_next_submitted, is_proven};
 use crate::verdict::demand;
-use faust_hash::chain;
+use faust_hash::{PreparedKey, chain};
 use faust_types::{Digest, OutOfMemory, Reply, Tag, Tuple, Version};
 
 /// How far the walk over the pending tuples of a reply came: the version of the operations so far, and the
@@ -47,7 +47,7 @@ impl Walk {
     #[tactic(auto, unfolding(crate::specs::Checks::broken_tuple))]
     fn check(
         &self,
-        key: &[u8],
+        key: &PreparedKey,
         me: u8,
         proofs: &[Option<Tag>],
         q: u32,
@@ -66,7 +66,7 @@ impl Walk {
     // Whether tuple q breaks none of the checks 6, 7 and 8.
     pub(crate) fn is_next(
         &self,
-        key: &[u8],
+        key: &PreparedKey,
         me: u8,
         proofs: &[Option<Tag>],
         q: u32,
@@ -84,7 +84,7 @@ impl Walk {
 }
 
 /// Walks over all pending tuples of a reply.
-pub fn walked(key: &[u8], me: u8, reply: &Reply) -> Result<Walk, JudgeError>
+pub fn walked(key: &PreparedKey, me: u8, reply: &Reply) -> Result<Walk, JudgeError>
     requires client { IsClient (clients_of reply.now.version.version) me }
     requires reply { IsReplyFor (clients_of reply.now.version.version) reply.now }
     ensures walked { Gives result (walked key.now me reply.now.proofs 1 (begun reply.now) reply.now.pending) }

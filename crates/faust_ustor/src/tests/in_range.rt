@@ -40,11 +40,6 @@ fn is_known_by(n: u8, k: u8, known: &Known) -> bool
 fn is_version_for(n: u8, version: &Version) -> bool
     ensures { IsTrue result → IsVersionFor n version.now }
 {
-    for before in 0..version.clients() {
-        if !is_optional_digest(version.digest(before + 1)) {
-            return false;
-        }
-    }
     version.clients() == n
 }
 

@@ -2,7 +2,8 @@ use Rattle.std.proofs.Common.{◌≡◌, ap, ◌∙◌, sym, subst}
 use Rattle.faust_types.specs.Versions.{Vector, IsAtMost}
 use Rattle.faust_ustor.specs.declared.judgement.Judged.{Judged}
 use Rattle.faust_ustor.specs.Passed.{next_of}
-use Rattle.faust_ustor.proofs.Above.{at_most-next, at_most-trans}
+use Rattle.faust_types.proofs.Order.{at_most_along}
+use Rattle.faust_ustor.proofs.Above.{at_most-next}
 use Rattle.faust_ustor.proofs.Passes.{judged-passed}
 use Rattle.faust_ustor.proofs.Counts.{next-told}
 use Rattle.faust_ustor.proofs.laws.next_is_above.Goals as goal
@@ -16,5 +17,5 @@ returns-clause-version c key me own op reply answer pending h told =
 pub returns-clause-own : goal.returns-clause-own
 returns-clause-own c key me own op reply answer pending h told =
     let right = judged-passed key me own op reply answer told in
-    at_most-trans own reply.version.version answer.next (sym h.version_known.version_in_range.count) right.passed.own_at_most
+    at_most_along own reply.version.version answer.next (sym h.version_known.version_in_range.count) right.passed.own_at_most
     (returns-clause-version c key me own op reply answer pending h told)

@@ -10,7 +10,7 @@ use Rattle.faust_ustor.specs.Checks.{advanced, broken_tuple}
 use Rattle.faust_ustor.proofs.Inputs.{none-from, rest_inputs, rest_inputs-more}
 use Rattle.faust_ustor.proofs.Ranges.{at-all, walk_for-advanced}
 use Rattle.faust_ustor.proofs.Steps.{tuple-another, tuple-room}
-use Rattle.faust_ustor.proofs.hashing.hashed.Goals as goal
+use Rattle.faust_ustor.proofs.hashing.hashed_under.Goals as goal
 
 pub advance-requires-clause-room : goal.advance-requires-clause-room
 advance-requires-clause-room c =

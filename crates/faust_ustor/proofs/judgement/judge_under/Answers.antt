@@ -7,7 +7,7 @@ use Rattle.faust_ustor.proofs.Next.{judged-in_range}
 use Rattle.faust_ustor.proofs.Passes.{judged-reached}
 use Rattle.faust_ustor.proofs.Steps.{own-room}
 use Rattle.faust_ustor.proofs.Told.{gives-ok}
-use Rattle.faust_ustor.proofs.judgement.judge.Goals as goal
+use Rattle.faust_ustor.proofs.judgement.judge_under.Goals as goal
 
 pub advance-requires-clause-room : goal.advance-requires-clause-room
 advance-requires-clause-room c =

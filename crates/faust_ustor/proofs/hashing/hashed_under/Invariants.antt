@@ -3,7 +3,7 @@ use Rattle.faust_types.specs.Versions.{clients_of, timestamp_at}
 use Rattle.faust_ustor.specs.Hashed.{hashed}
 use Rattle.faust_ustor.specs.InRange.{IsWalkFor}
 use Rattle.faust_ustor.proofs.Inputs.{rest_inputs}
-use Rattle.faust_ustor.proofs.hashing.hashed.Given as goal
+use Rattle.faust_ustor.proofs.hashing.hashed_under.Given as goal
 
 abbrev pub invariant-loop-before : goal.invariant-loop-before
 invariant-loop-before l = record {
