@@ -1,3 +1,4 @@
 pub mod Ordering
 pub mod Tuples
 pub mod Kept
+pub mod Rows

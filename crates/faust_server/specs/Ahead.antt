@@ -1,4 +1,4 @@
--- How the server compares two committed versions: by their timestamps alone.
+-- How the server compares two committed versions, by their timestamps alone: `Rows` rests on it.
 use Rattle.std.specs.Prelude.{◌≢◌, ℕ, ◌<◌, ◌≤◌, ◌&&◌, zero, suc, Bool, true, not, List, length, slice_index, nat_le}
 
 -- One vector of timestamps is ahead of another where it is at least the other in every place and differs from it.

@@ -1,5 +1,5 @@
--- The honest server: its state, and its two rows. The first definitions say what the rows read and write; the
--- rows themselves, `submitted` and `committed`, stand at the end.
+-- The honest server: its state, and its two rows. Each promise of the crate rests on this file. The first
+-- definitions say what the rows read and write; the rows themselves, `committed` and `submitted`, stand at the end.
 use Rattle.std.specs.Prelude.{◌≡◌, ℕ, ◌+◌, ◌-◌, ◌==◌, ◌&&◌, Bool, true, false, not, if◌then◌else◌, List, [], ◌∷◌, ◌++◌, length, Option, Some, None, Result, Ok, Err, filter, position, drop, replicate, slice_index_or, slice_set}
 use Rattle.faust_types.specs.Versions.{Vector, timestamp_at}
 use Rattle.faust_types.specs.Messages.{unmade, value_of}
@@ -48,12 +48,15 @@ first_state n = record {
   turns = replicate n first_turn;
 }
 
--- MEM[k], SVER[k] and the turn of client k.
+-- MEM[k], SVER[k], P[k] and the turn of client k.
 abbrev pub memory_at : State → ℕ → Option Mem
 memory_at st k = slice_index_or st.memory (k - 1) None
 
 abbrev pub version_at : State → ℕ → Known
 version_at st k = slice_index_or st.versions (k - 1) (unmade 0)
+
+abbrev pub proof_at : State → ℕ → Option (List ℕ)
+proof_at st k = slice_index_or st.proofs (k - 1) None
 
 abbrev pub turn_at : State → ℕ → Turn
 turn_at st k = slice_index_or st.turns (k - 1) first_turn
@@ -127,7 +130,10 @@ abbrev pub without : ℕ → List Tuple → List Tuple
 without i pending = filter (λ (tuple : Tuple). not (tuple.client == i)) pending
 
 abbrev pub advanced : State → ℕ → Vector → State
-advanced st i version = if is_ahead version.timestamps (greatest st).version.timestamps then record st { c = i; pending = behind i st.pending } else st
+advanced st i version =
+    if is_ahead version.timestamps (greatest st).version.timestamps
+    then record st { c = i; pending = behind i st.pending }
+    else st
 
 -- COMMIT, step 2: the version and the proof are the client's, nothing of it is pending, and it is committed.
 abbrev pub settled : State → ℕ → Commit → State
@@ -138,25 +144,46 @@ settled st i m = record st {
   turns = slice_set st.turns (i - 1) (record (turn_at st i) { uncommitted = false });
 }
 
--- What a SUBMIT gives: the state after it, and the reply.
-pub record Served : Type 0 where
-  pub state : State
-  pub reply : Reply
-
--- SUBMIT from client i in turn: step 1, then steps 2 and 3.
-abbrev pub served : State → ℕ → Submit → Served
-served st i m = record { state = appended (remembered st i m) i m; reply = replied (remembered st i m) m }
-
--- The row SUBMIT: out of turn, or the state and the reply.
-abbrev pub submitted : State → ℕ → Submit → Result Served OutOfTurn
-submitted st i m = if is_submit_in_turn (turn_at st i) m.t then Ok (served st i m) else Err (out_of_turn (turn_at st i) m.t)
-
--- The row COMMIT: out of turn, or the state.
+-- The row COMMIT: out of turn, or the state after both steps.
 abbrev pub committed : State → ℕ → Commit → Result State OutOfTurn
 committed st i m =
     if is_commit_in_turn (turn_at st i) (timestamp_at m.version i)
     then Ok (settled (advanced st i m.version) i m)
     else Err (out_of_turn (turn_at st i) (timestamp_at m.version i))
+
+-- What a SUBMIT gives: the state after it, and the reply.
+pub record Served : Type 0 where
+  pub state : State
+  pub reply : Reply
+
+-- The three steps of a SUBMIT.
+abbrev pub served : State → ℕ → Submit → Served
+served st i m = record { state = appended (remembered st i m) i m; reply = replied (remembered st i m) m }
+
+-- The row SUBMIT where no COMMIT rides on it: out of turn, or the state and the reply.
+abbrev pub submitted_alone : State → ℕ → Submit → Result Served OutOfTurn
+submitted_alone st i m =
+    if is_submit_in_turn (turn_at st i) m.t
+    then Ok (served st i m)
+    else Err (out_of_turn (turn_at st i) m.t)
+
+-- A COMMIT that rides on a SUBMIT has its row first, and the SUBMIT has its own in the state after it. Where one
+-- of the two is out of turn, so is the message.
+abbrev pub ridden : State → ℕ → Option Commit → Result State OutOfTurn
+ridden st i None = Ok st
+ridden st i (Some commit) = committed st i commit
+
+abbrev pub then_submitted : Result State OutOfTurn → ℕ → Submit → Result Served OutOfTurn
+then_submitted (Ok st) i m = submitted_alone st i m
+then_submitted (Err refused) i m = Err refused
+
+-- The row SUBMIT.
+abbrev pub submitted : State → ℕ → Submit → Result Served OutOfTurn
+submitted st i m = then_submitted (ridden st i m.commit) i m
+
+-- The SUBMIT without the COMMIT that rides on it.
+abbrev pub alone : Submit → Submit
+alone m = record m { commit = None }
 
 -- An answer to a SUBMIT is its row's: the row's reply in the row's state, or the row's refusal in the state as
 -- before. Only want of memory is free, and leaves the state as before too.

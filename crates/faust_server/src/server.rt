@@ -4,8 +4,9 @@ ghost use Rattle.faust_types.specs.Versions.{clients_of};
 ghost use Rattle.faust_types.specs.Ranges.{IsSubmitFor, IsCommitFor, IsReplyFor, IsVersionFor};
 ghost use Rattle.faust_types.specs.Messages.{unmade, value_of};
 ghost use Rattle.faust_types.specs.declared.operation.Kind.TheVariants.{Read};
-ghost use Rattle.faust_server.specs.Rows.{client_count, first_state, turn_at, renewed, remembered, read_part, replied, appended, advanced, settled, submitted, committed, retaken, Serves, Settles};
+ghost use Rattle.faust_server.specs.Rows.{client_count, first_state, version_at, turn_at, renewed, remembered, read_part, replied, appended, advanced, settled, submitted_alone, then_submitted, submitted, committed, retaken, Serves, Settles};
 ghost use Rattle.faust_server.specs.States.{IsState};
+ghost use Rattle.faust_server.specs.TakenBack.{replaced_in, taken_back};
 
 use crate::ahead::is_ahead;
 use crate::pending::Pending;
@@ -27,6 +28,16 @@ pub struct Server {
     pending: Pending,
     proofs: PerClient<Option<Tag>>,
     turns: PerClient<Turn>,
+}
+
+/// What a COMMIT of its client replaces, kept until the SUBMIT on which it rides is answered.
+#[derive(Debug, Drop)]
+struct Replaced {
+    c: u8,
+    known: Known,
+    pending: Pending,
+    proof: Option<Tag>,
+    turn: Turn,
 }
 
 impl Model for Server {
@@ -68,8 +79,8 @@ impl Server {
         self.turns.len() as u8
     }
 
-    /// Takes the SUBMIT m of client i, in range for these clients, and answers it. A message out of turn is
-    /// refused.
+    /// Takes the SUBMIT m of client i, in range for these clients, and answers it. Where a COMMIT rides on it, that is
+    /// taken first. A message out of turn is refused; that of the COMMIT where it is the COMMIT that isn't due.
     pub fn submit(&mut self, i: u8, m: Submit) -> Result<Reply, ServerError>
         requires client { IsClient (client_count self.old) i }
         requires message { IsSubmitFor (client_count self.old) m }
@@ -79,11 +90,11 @@ impl Server {
         ensures in_range { IfOk result (IsReplyFor (client_count self.old)) }
         ensures count { client_count self.new ≡ client_count self.old }
     {
-        self.turn(i).admit_submit(m.t)?;
-        let reply = self.reply_to(i, &m)?;
-        self.append(i, &m)?;
-        self.remember(i, m);
-        Ok(reply)
+        let mut m = m;
+        match m.commit.take() {
+            None => self.submit_alone(i, m),
+            Some(commit) => self.submit_behind(i, commit, m),
+        }
     }
 
     /// Takes the COMMIT m of client i, in range for these clients. It takes no memory. A message out of turn is
@@ -95,8 +106,7 @@ impl Server {
         ensures count { client_count self.new ≡ client_count self.old }
     {
         self.turn(i).admit_commit(m.version.at(i))?;
-        self.advance(i, &m.version);
-        self.settle(i, m);
+        let _replaced = self.take_commit(i, m);
         Ok(())
     }
 
@@ -127,6 +137,85 @@ impl Server {
             proofs: self.proofs.copy()?,
             turns: self.turns.copy()?,
         })
+    }
+
+    /// The SUBMIT m, on which no COMMIT rides.
+    fn submit_alone(&mut self, i: u8, m: Submit) -> Result<Reply, ServerError>
+        requires client { IsClient (client_count self.old) i }
+        requires message { IsSubmitFor (client_count self.old) m }
+        ensures row { Serves result self.old self.new (submitted_alone self.old i m) }
+        ensures count { client_count self.new ≡ client_count self.old }
+        ensures kept { IsState self.old }
+    {
+        self.turn(i).admit_submit(m.t)?;
+        let reply = self.reply_to(i, &m)?;
+        self.append(i, &m)?;
+        self.remember(i, m);
+        Ok(reply)
+    }
+
+    /// The COMMIT, and behind it the SUBMIT on which it rides. Where the SUBMIT is refused, the COMMIT is taken back.
+    fn submit_behind(&mut self, i: u8, commit: Commit, m: Submit) -> Result<Reply, ServerError>
+        requires client { IsClient (client_count self.old) i }
+        requires riding { IsCommitFor (client_count self.old) commit }
+        requires message { IsSubmitFor (client_count self.old) m }
+        ensures row { Serves result self.old self.new (then_submitted (committed self.old i commit) i m) }
+        ensures count { client_count self.new ≡ client_count self.old }
+        ensures kept { IsState self.old }
+    {
+        self.turn(i).admit_commit(commit.version.at(i))?;
+        let before = self.take_riding(i, commit)?;
+        match self.submit_alone(i, m) {
+            Ok(reply) => Ok(reply),
+            Err(refusal) => {
+                self.take_back(i, before);
+                Err(refusal)
+            }
+        }
+    }
+
+    /// Both steps of a COMMIT in turn, and the version that they replaced.
+    fn take_commit(&mut self, i: u8, m: Commit) -> Known
+        requires client { IsClient (client_count self.old) i }
+        requires message { IsCommitFor (client_count self.old) m }
+        ensures row { self.new ≡ settled (advanced self.old i m.version) i m }
+        ensures replaced { result ≡ version_at self.old i }
+    {
+        self.advance(i, &m.version);
+        self.settle(i, m)
+    }
+
+    /// The same, and all that they replaced. The copy of the list is made first.
+    fn take_riding(&mut self, i: u8, m: Commit) -> Result<Replaced, OutOfMemory>
+        requires client { IsClient (client_count self.old) i }
+        requires message { IsCommitFor (client_count self.old) m }
+        ensures ok { OnOk result (self.new ≡ settled (advanced self.old i m.version) i m) }
+        ensures replaced { IfOk result (λ before. before ≡ replaced_in self.old i) }
+        ensures err { OnErr result (self.new ≡ self.old) }
+    {
+        let (c, proof, turn) = (self.c, *self.proofs.at(i), *self.turns.at(i));
+        let pending = self.pending.copy()?;
+        let known = self.take_commit(i, m);
+        Ok(Replaced {
+            c,
+            known,
+            pending,
+            proof,
+            turn,
+        })
+    }
+
+    /// Puts what a COMMIT of client i replaced in its place again.
+    fn take_back(&mut self, i: u8, before: Replaced)
+        requires client { IsClient (client_count self.old) i }
+        requires kept { IsState (taken_back self.old i before) }
+        ensures { self.new ≡ taken_back self.old i before }
+    {
+        self.c = before.c;
+        self.versions.set(i, before.known);
+        self.pending = before.pending;
+        self.proofs.set(i, before.proof);
+        self.turns.set(i, before.turn);
     }
 
     fn turn(&self, i: u8) -> Turn
@@ -217,10 +306,12 @@ impl Server {
         }
     }
 
-    fn settle(&mut self, i: u8, m: Commit)
+    /// The second step of a COMMIT, and the version that it replaced.
+    fn settle(&mut self, i: u8, m: Commit) -> Known
         requires client { IsClient (client_count self.old) i }
         requires message { IsCommitFor (client_count self.old) m }
-        ensures { self.new ≡ settled self.old i m }
+        ensures row { self.new ≡ settled self.old i m }
+        ensures replaced { result ≡ version_at self.old i }
     {
         let last = self.turns.at(i).last;
         let turn = Turn {
@@ -233,10 +324,11 @@ impl Server {
             version: m.version,
             tag,
         };
-        self.versions.set(i, known);
+        let replaced = self.versions.replace(i, known);
         self.pending.leave(i);
         self.proofs.set(i, Some(proof_tag));
         self.turns.set(i, turn);
+        replaced
     }
 }
 

@@ -1,6 +1,6 @@
-ghost use Rattle.std.specs.Prelude.{◌≡◌, ◌^◌, ◌<◌, ◌≤◌, ℕ, IfOk};
+ghost use Rattle.std.specs.Prelude.{◌≡◌, ◌^◌, ◌<◌, IfOk, IfSome};
 ghost use Rattle.faust_types.specs.Clients.{IsClient};
-ghost use Rattle.faust_types.specs.Ranges.{IsOperationNumber, IsVersionFor};
+ghost use Rattle.faust_types.specs.Ranges.{IsOperationNumber, IsVersionFor, IsSubmitFor, IsCommitFor};
 ghost use Rattle.faust_server.specs.Rows.{client_count};
 
 use super::*;
@@ -95,21 +95,57 @@ fn retake(server: &mut Server, i: u8, last: u64, uncommitted: bool)
     server.retake(i, last, uncommitted);
 }
 
-/// Client i of two writes one byte, which its tags repeat.
-fn write(server: &mut Server, alloc: Global, i: u8, t: u64, byte: u8) -> Result<Shown, ServerError>
-    requires two { client_count server.old ≡ 2 }
+/// The SUBMIT of a write of one byte, which its tags repeat, for two clients.
+fn written(
+    alloc: Global,
+    i: u8,
+    t: u64,
+    byte: u8,
+    commit: Option<Commit>,
+) -> Result<Submit, OutOfMemory>
     requires client { IsClient 2 i }
     requires number { IsOperationNumber t }
-    ensures { client_count server.new ≡ 2 }
+    requires riding { IfSome commit (IsCommitFor 2) }
+    ensures { IfOk result (IsSubmitFor 2) }
 {
-    let m = Submit {
+    Ok(Submit {
         kind: Kind::Write,
         register: i,
         t,
         value: Some(Bytes::from_slice(alloc, &[byte])?),
         submit_tag: [byte; 32],
         data_tag: [byte; 32],
-    };
+        commit,
+    })
+}
+
+/// Client i of two writes one byte.
+fn write(server: &mut Server, alloc: Global, i: u8, t: u64, byte: u8) -> Result<Shown, ServerError>
+    requires two { client_count server.old ≡ 2 }
+    requires client { IsClient 2 i }
+    requires number { IsOperationNumber t }
+    ensures { client_count server.new ≡ 2 }
+{
+    let m = written(alloc, i, t, byte, None)?;
+    Ok(summary_of(&server.submit(i, m)?))
+}
+
+/// The same with a COMMIT that rides on the SUBMIT.
+fn write_behind(
+    server: &mut Server,
+    alloc: Global,
+    i: u8,
+    t: u64,
+    byte: u8,
+    commit: Commit,
+) -> Result<Shown, ServerError>
+    requires two { client_count server.old ≡ 2 }
+    requires client { IsClient 2 i }
+    requires number { IsOperationNumber t }
+    requires riding { IsCommitFor 2 commit }
+    ensures { client_count server.new ≡ 2 }
+{
+    let m = written(alloc, i, t, byte, Some(commit))?;
     Ok(summary_of(&server.submit(i, m)?))
 }
 
@@ -128,11 +164,34 @@ fn read(server: &mut Server, i: u8, t: u64, register: u8, byte: u8) -> Result<Sh
         value: None,
         submit_tag: [byte; 32],
         data_tag: [byte; 32],
+        commit: None,
     };
     Ok(summary_of(&server.submit(i, m)?))
 }
 
-/// Client i of two commits a version with these two timestamps and one digest, repeated bytes all.
+/// The COMMIT of a version with these two timestamps and one digest, repeated bytes all.
+fn commit_of(
+    rt: &impl Abort,
+    alloc: Global,
+    timestamps: (u64, u64),
+    byte: u8,
+) -> Result<Commit, OutOfMemory>
+    requires first { timestamps.0 < 2 ^ 40 }
+    requires second { timestamps.1 < 2 ^ 40 }
+    ensures { IfOk result (IsCommitFor 2) }
+{
+    let mut version = Version::initial(alloc, 2)?;
+    put(&mut version, 1, timestamps.0, byte);
+    put(&mut version, 2, timestamps.1, byte);
+    assert!(rt; !version.is_initial());
+    Ok(Commit {
+        version,
+        commit_tag: [byte; 32],
+        proof_tag: [byte; 32],
+    })
+}
+
+/// Client i of two commits such a version.
 fn commit(
     rt: &impl Abort,
     server: &mut Server,
@@ -147,15 +206,7 @@ fn commit(
     requires second { timestamps.1 < 2 ^ 40 }
     ensures { client_count server.new ≡ 2 }
 {
-    let mut version = Version::initial(alloc, 2)?;
-    put(&mut version, 1, timestamps.0, byte);
-    put(&mut version, 2, timestamps.1, byte);
-    assert!(rt; !version.is_initial());
-    let m = Commit {
-        version,
-        commit_tag: [byte; 32],
-        proof_tag: [byte; 32],
-    };
+    let m = commit_of(rt, alloc, timestamps, byte)?;
     Ok(server.commit(i, m))
 }
 
@@ -223,6 +274,81 @@ fn an_incomparable_commit_takes_its_own_tuple(rt: HostRuntime) {
         read: None,
     };
     assert_eq!(rt; write(&mut server, alloc, 2, 2, b'c'), Ok(last));
+}
+
+#[test]
+fn a_riding_commit_comes_first(rt: HostRuntime) {
+    let alloc = rt.alloc();
+    let mut server = server_for_two(alloc).expect(&rt, "memory");
+    let _first = write(&mut server, alloc, 1, 1, b'a').expect(&rt, "in turn");
+    let ahead = commit_of(&rt, alloc, (1, 0), b'a').expect(&rt, "memory");
+    let settled = Shown {
+        c: 1,
+        maker: 1,
+        pending: 0,
+        proofs: 1,
+        read: None,
+    };
+    assert_eq!(rt;
+        write_behind(&mut server, alloc, 1, 2, b'b', ahead),
+        Ok(settled)
+    );
+    let other = write(&mut server, alloc, 2, 1, b'c').expect(&rt, "in turn");
+    assert_eq!(rt; other.pending, 1);
+    let apart = commit_of(&rt, alloc, (0, 1), b'c').expect(&rt, "memory");
+    let both = Shown {
+        c: 1,
+        maker: 1,
+        pending: 1,
+        proofs: 2,
+        read: None,
+    };
+    assert_eq!(rt;
+        write_behind(&mut server, alloc, 2, 2, b'd', apart),
+        Ok(both)
+    );
+}
+
+#[test]
+fn a_riding_commit_is_taken_back(rt: HostRuntime) {
+    let alloc = rt.alloc();
+    let mut server = server_for_two(alloc).expect(&rt, "memory");
+    let _first = write(&mut server, alloc, 1, 1, b'a').expect(&rt, "in turn");
+    let late = commit_of(&rt, alloc, (2, 0), b'b').expect(&rt, "memory");
+    let not_due = ServerError::OutOfTurn {
+        expected: 1,
+        got: 2,
+    };
+    assert_eq!(rt;
+        write_behind(&mut server, alloc, 1, 2, b'b', late),
+        Err(not_due)
+    );
+    let due = commit_of(&rt, alloc, (1, 0), b'b').expect(&rt, "memory");
+    let too_high = ServerError::OutOfTurn {
+        expected: 2,
+        got: 3,
+    };
+    assert_eq!(rt;
+        write_behind(&mut server, alloc, 1, 3, b'b', due),
+        Err(too_high)
+    );
+    let idle = commit_of(&rt, alloc, (1, 0), b'c').expect(&rt, "memory");
+    let nothing_to_commit = ServerError::OutOfTurn {
+        expected: 1,
+        got: 0,
+    };
+    assert_eq!(rt;
+        write_behind(&mut server, alloc, 2, 1, b'c', idle),
+        Err(nothing_to_commit)
+    );
+    let as_before = Shown {
+        c: 1,
+        maker: 0,
+        pending: 1,
+        proofs: 0,
+        read: None,
+    };
+    assert_eq!(rt; write(&mut server, alloc, 2, 1, b'c'), Ok(as_before));
 }
 
 #[test]
