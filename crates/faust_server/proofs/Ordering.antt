@@ -15,7 +15,8 @@ covers_up_to-true v w (suc n) h k lt =
 
 pub covers_up_to-from : (v w : List ℕ) (n : ℕ) → ((k : ℕ) → k < n → get_or w k 0 ≤ get_or v k 0) → covers_up_to v w n ≡ true
 covers_up_to-from v w zero each = refl
-covers_up_to-from v w (suc n) each = and_from _ _ (covers_up_to-from v w n (λ k lt. each k (omega arith))) (le-leb _ _ (each n (omega arith)))
+covers_up_to-from v w (suc n) each = and_from _ _ (covers_up_to-from v w n (λ k lt. each k (omega arith)))
+    (le-leb _ _ (each n (omega arith)))
 
 pub covers-true : (v w : List ℕ) → covers v w ≡ true → (k : ℕ) → k < length v → get_or w k 0 ≤ get_or v k 0
 unfolding covers
@@ -31,7 +32,8 @@ covers-refl v = covers-from v v (λ k lt. omega arith)
 
 -- two lists of one length that cover each other are equal
 pub covers-both : (v w : List ℕ) → length v ≡ length w → covers v w ≡ true → covers w v ≡ true → v ≡ w
-covers-both v w paired there back = ext_get_or 0 v w paired (λ k lt. let a = covers-true v w there k lt in let b = covers-true w v back k (omega (arith, paired)) in omega arith)
+covers-both v w paired there back = ext_get_or 0 v w paired
+    (λ k lt. let a = covers-true v w there k lt in let b = covers-true w v back k (omega (arith, paired)) in omega arith)
 
 pub is_ahead-means : (v w : List ℕ) → length v ≡ length w → (is_ahead v w ≡ true) ↔ IsAhead v w
 is_ahead-means v w paired = (

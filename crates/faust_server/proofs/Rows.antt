@@ -7,7 +7,6 @@ use Rattle.faust_types.specs.Versions.{Vector, timestamp_at}
 use Rattle.faust_types.specs.Ranges.{IsSubmitFor, IsCommitFor, IsReplyFor}
 use Rattle.faust_types.specs.Messages.{unmade}
 use Rattle.faust_types.specs.declared.message.Known.{Known}
-use Rattle.faust_types.specs.declared.message.Tuple.{Tuple}
 use Rattle.faust_types.specs.declared.message.Submit.{Submit}
 use Rattle.faust_types.specs.declared.message.Commit.{Commit}
 use Rattle.faust_types.specs.declared.message.Reply.{Reply}
@@ -76,7 +75,8 @@ submitted_alone-in_range n st i m h client message =
     ]
 
 pub then_submitted-in_range : (n : ℕ) (row : Result State OutOfTurn) (i : ℕ) (m : Submit) (commit : Option Commit)
-    → IfOk row (IsStateFor n) → IsClient n i → IsSubmitFor n m → IfOk (then_submitted row i (record m { commit = commit })) (IsServedFor n)
+    → IfOk row (IsStateFor n) → IsClient n i → IsSubmitFor n m → IfOk (then_submitted row i (record m { commit = commit }))
+    (IsServedFor n)
 then_submitted-in_range n (Ok st) i m commit h client message = submitted_alone-in_range n st i m h client message
 then_submitted-in_range n (Err refused) i m commit h client message = tt
 
@@ -88,7 +88,8 @@ ridden-in_range n st i (Some commit) h client message = committed-in_range n st 
 pub submitted-in_range : (n : ℕ) (st : State) (i : ℕ) (m : Submit) → IsStateFor n st → IsClient n i → IsSubmitFor n m
     → IfOk (submitted st i m) (IsServedFor n)
 submitted-in_range n st i m h client message =
-    then_submitted-in_range n (ridden st i m.commit) i m m.commit (ridden-in_range n st i m.commit h client message.commit_in_range) client message
+    then_submitted-in_range n (ridden st i m.commit) i m m.commit
+    (ridden-in_range n st i m.commit h client message.commit_in_range) client message
 
 -- the row of a SUBMIT is that of the COMMIT which rides on it, and then its own without it
 then_submitted-alone : (row : Result State OutOfTurn) (i : ℕ) (m : Submit) → then_submitted row i m ≡ then_submitted row i (alone m)
@@ -220,7 +221,8 @@ module _ (st : State) (i : ℕ) (m : Commit) where
       let versions : List Known = slice_set (slice_set st.versions (i - 1) known) (i - 1) (version_at st i) in
       let proofs : List (Option (List ℕ)) = slice_set (slice_set st.proofs (i - 1) proof) (i - 1) (proof_at st i) in
       let turns : List Turn = slice_set (slice_set st.turns (i - 1) turn) (i - 1) (turn_at st i) in
-      let versions-same : versions ≡ st.versions = set-set st.versions (i - 1) known (version_at st i) ∙ set-get_or st.versions (i - 1) (unmade 0) in
+      let versions-same : versions ≡ st.versions = set-set st.versions (i - 1) known (version_at st i) ∙ set-get_or st.versions
+      (i - 1) (unmade 0) in
       let proofs-same : proofs ≡ st.proofs = set-set st.proofs (i - 1) proof (proof_at st i) ∙ set-get_or st.proofs (i - 1) None in
       let turns-same : turns ≡ st.turns = set-set st.turns (i - 1) turn (turn_at st i) ∙ set-get_or st.turns (i - 1) first_turn in
       ap (λ (xs : List Known). with_lists xs proofs turns) versions-same
@@ -231,7 +233,8 @@ module _ (st : State) (i : ℕ) (m : Commit) where
   unfolding with_lists
   taken_back-settled =
       elim (is_ahead m.version.timestamps (greatest st).version.timestamps)
-      as (λ b. taken_back (settled (if b then record st { c = i; pending = behind i st.pending } else st) i m) i (replaced_in st i) ≡ st) [
+      as (λ b. taken_back (settled (if b then record st { c = i; pending = behind i st.pending } else st) i m) i
+      (replaced_in st i) ≡ st) [
         | true ↦ lists-back _ _ _
         | false ↦ lists-back _ _ _
       ]
@@ -244,7 +247,8 @@ module _ (st : State) (i : ℕ) (m : Commit) where
       ∙ taken_back-settled
 
 -- a SUBMIT that is refused leaves the state as before, and behind a COMMIT that is taken back too
-pub refused-same : (refusal : ServerError) (old now : State) (row : Result Served OutOfTurn) → Serves (Err refusal) old now row → now ≡ old
+pub refused-same : (refusal : ServerError) (old now : State) (row : Result Served OutOfTurn) → Serves (Err refusal) old now row
+    → now ≡ old
 refused-same (refusals.OutOfTurn expected got) old now row h = h.1
 refused-same refusals.OutOfMemory old now row h = h
 
@@ -254,16 +258,20 @@ refused-behind (refusals.OutOfTurn expected got) old now st back row both same i
 refused-behind refusals.OutOfMemory old now st back row both same is h = is
 
 -- an answer that is its row's is in range where the row is
-pub few-pending : (n : ℕ) (result : Result Reply ServerError) (old now : State) (row : Result Served OutOfTurn) → Serves result old now row
+pub few-pending : (n : ℕ) (result : Result Reply ServerError) (old now : State) (row : Result Served OutOfTurn)
+    → Serves result old now row
     → IfOk row (IsServedFor n) → IfOk result (λ reply. length reply.pending < n)
 few-pending n (Ok reply) old now row is h =
-    let served : IsServedFor n (record { state = now; reply = reply }) = subst (λ (z : Result Served OutOfTurn). IfOk z (IsServedFor n)) is h in
+    let served : IsServedFor n (record { state = now; reply = reply }) = subst
+    (λ (z : Result Served OutOfTurn). IfOk z (IsServedFor n)) is h in
     served.few_pending
 few-pending n (Err refusal) old now row is h = tt
 
-pub reply-in_range : (n : ℕ) (result : Result Reply ServerError) (old now : State) (row : Result Served OutOfTurn) → Serves result old now row
+pub reply-in_range : (n : ℕ) (result : Result Reply ServerError) (old now : State) (row : Result Served OutOfTurn)
+    → Serves result old now row
     → IfOk row (IsServedFor n) → IfOk result (IsReplyFor n)
 reply-in_range n (Ok reply) old now row is h =
-    let served : IsServedFor n (record { state = now; reply = reply }) = subst (λ (z : Result Served OutOfTurn). IfOk z (IsServedFor n)) is h in
+    let served : IsServedFor n (record { state = now; reply = reply }) = subst
+    (λ (z : Result Served OutOfTurn). IfOk z (IsServedFor n)) is h in
     served.reply_in_range
 reply-in_range n (Err refusal) old now row is h = tt

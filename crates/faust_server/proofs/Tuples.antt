@@ -22,7 +22,8 @@ tuples_by-le-cons k tuple rest = elim (cases_eq tuple.client k) [
 ]
 
 -- a tuple put at the end
-pub tuples_by-push_own : (k : ℕ) (xs : List Tuple) (tuple : Tuple) → tuple.client ≡ k → tuples_by k (xs ++ tuple ∷ []) ≡ suc (tuples_by k xs)
+pub tuples_by-push_own : (k : ℕ) (xs : List Tuple) (tuple : Tuple) → tuple.client ≡ k
+    → tuples_by k (xs ++ tuple ∷ []) ≡ suc (tuples_by k xs)
 tuples_by-push_own k [] tuple e = tuples_by-own k tuple [] e
 tuples_by-push_own k (x ∷ xs) tuple e =
     let rest = tuples_by-push_own k xs tuple e in
@@ -31,7 +32,8 @@ tuples_by-push_own k (x ∷ xs) tuple e =
       | inr ne ↦ omega (arith, tuples_by-other k x xs ne, tuples_by-other k x (xs ++ tuple ∷ []) ne)
     ]
 
-pub tuples_by-push_other : (k : ℕ) (xs : List Tuple) (tuple : Tuple) → (tuple.client ≡ k → ⊥) → tuples_by k (xs ++ tuple ∷ []) ≡ tuples_by k xs
+pub tuples_by-push_other : (k : ℕ) (xs : List Tuple) (tuple : Tuple) → (tuple.client ≡ k → ⊥)
+    → tuples_by k (xs ++ tuple ∷ []) ≡ tuples_by k xs
 tuples_by-push_other k [] tuple ne = tuples_by-other k tuple [] ne
 tuples_by-push_other k (x ∷ xs) tuple ne =
     let rest = tuples_by-push_other k xs tuple ne in
@@ -65,7 +67,13 @@ tuples_by-without-le k i (x ∷ xs) =
       | inl e ↦ omega (arith, ap (tuples_by k) (without-own i x xs e))
       | inr ne ↦ elim (cases_eq x.client k) [
         | inl q ↦ omega (arith, ap (tuples_by k) (without-other i x xs ne), tuples_by-own k x (without i xs) q, tuples_by-own k x xs q)
-        | inr other ↦ omega (arith, ap (tuples_by k) (without-other i x xs ne), tuples_by-other k x (without i xs) other, tuples_by-other k x xs other)
+        | inr other ↦ omega (
+          arith,
+          ap (tuples_by k) (without-other i x xs ne),
+          tuples_by-other k x
+              (without i xs) other,
+          tuples_by-other k x xs other,
+        )
       ]
     ]
 
@@ -86,16 +94,19 @@ pub without-none : (i : ℕ) (xs : List Tuple) → tuples_by i xs ≡ 0 → with
 without-none i [] none = refl
 without-none i (x ∷ xs) none = elim (cases_eq x.client i) [
   | inl e ↦ absurd (omega (arith, none, tuples_by-own i x xs e))
-  | inr ne ↦ without-other i x xs ne ∙ ap (λ (rest : List Tuple). x ∷ rest) (without-none i xs (omega (arith, none, tuples_by-other i x xs ne)))
+  | inr ne ↦ without-other i x xs ne ∙ ap (λ (rest : List Tuple). x ∷ rest)
+      (without-none i xs (omega (arith, none, tuples_by-other i x xs ne)))
 ]
 
-first_place : (i : ℕ) (before : List Tuple) (tuple : Tuple) (rest : List Tuple) → tuples_by i before ≡ 0 → tuple.client ≡ i → position_or_len (λ (x : Tuple). x.client == i) (before ++ tuple ∷ rest) ≡ length before
+first_place : (i : ℕ) (before : List Tuple) (tuple : Tuple) (rest : List Tuple) → tuples_by i before ≡ 0 → tuple.client ≡ i
+    → position_or_len (λ (x : Tuple). x.client == i) (before ++ tuple ∷ rest) ≡ length before
 first_place i [] tuple rest none e = cond-false _ _ _ (ap not (eq-eqb _ _ e))
 first_place i (x ∷ xs) tuple rest none e = elim (cases_eq x.client i) [
   | inl q ↦ absurd (omega (arith, none, tuples_by-own i x xs q))
   | inr ne ↦
       let more = first_place i xs tuple rest (omega (arith, none, tuples_by-other i x xs ne)) e in
-      let here : position_or_len (λ (x : Tuple). x.client == i) (x ∷ (xs ++ tuple ∷ rest)) ≡ 1 + position_or_len (λ (x : Tuple). x.client == i) (xs ++ tuple ∷ rest) = cond-true _ _ _ (ap not (ne_eqb _ _ ne)) in
+      let here : position_or_len (λ (x : Tuple). x.client == i) (x ∷ (xs ++ tuple ∷ rest)) ≡ 1 + position_or_len
+      (λ (x : Tuple). x.client == i) (xs ++ tuple ∷ rest) = cond-true _ _ _ (ap not (ne_eqb _ _ ne)) in
       omega (arith, here, more)
 ]
 
@@ -105,7 +116,8 @@ no_place i (x ∷ xs) none = elim (cases_eq x.client i) [
   | inl q ↦ absurd (omega (arith, none, tuples_by-own i x xs q))
   | inr ne ↦
       let more = no_place i xs (omega (arith, none, tuples_by-other i x xs ne)) in
-      let here : position_or_len (λ (x : Tuple). x.client == i) (x ∷ xs) ≡ 1 + position_or_len (λ (x : Tuple). x.client == i) xs = cond-true _ _ _ (ap not (ne_eqb _ _ ne)) in
+      let here : position_or_len (λ (x : Tuple). x.client == i) (x ∷ xs) ≡ 1 + position_or_len (λ (x : Tuple). x.client == i) xs =
+      cond-true _ _ _ (ap not (ne_eqb _ _ ne)) in
       omega (arith, here, more)
 ]
 
@@ -116,13 +128,15 @@ drop_past (x ∷ xs) tuple rest =
     ap (λ (n : ℕ). drop n (x ∷ (xs ++ tuple ∷ rest))) shift ∙ drop_past xs tuple rest
 
 -- the first tuple of client i leaves with all before it
-pub behind-first : (i : ℕ) (before : List Tuple) (tuple : Tuple) (rest : List Tuple) → tuples_by i before ≡ 0 → tuple.client ≡ i → behind i (before ++ tuple ∷ rest) ≡ rest
+pub behind-first : (i : ℕ) (before : List Tuple) (tuple : Tuple) (rest : List Tuple) → tuples_by i before ≡ 0 → tuple.client ≡ i
+    → behind i (before ++ tuple ∷ rest) ≡ rest
 behind-first i before tuple rest none e =
     let xs = before ++ tuple ∷ rest in
     let at : position_or_len (λ (x : Tuple). x.client == i) xs ≡ length before = first_place i before tuple rest none e in
     let within : length before < length xs = omega (arith, length-append before (tuple ∷ rest)) in
     let found : position (λ (x : Tuple). x.client == i) xs ≡ Some (length before) =
-    subst (λ (p : ℕ). (if nat_lt p (length xs) then Some p else None) ≡ Some (length before)) (sym at) (cond-true _ _ _ (lt-ltb _ _ within)) in
+    subst (λ (p : ℕ). (if nat_lt p (length xs) then Some p else None) ≡ Some (length before)) (sym at)
+    (cond-true _ _ _ (lt-ltb _ _ within)) in
     ap (λ (place : Option ℕ). behind_place place xs) found ∙ drop_past before tuple rest
 
 -- where there is none, all stay
@@ -130,7 +144,8 @@ pub behind-none : (i : ℕ) (xs : List Tuple) → tuples_by i xs ≡ 0 → behin
 behind-none i xs none =
     let at : position_or_len (λ (x : Tuple). x.client == i) xs ≡ length xs = no_place i xs none in
     let found : position (λ (x : Tuple). x.client == i) xs ≡ None =
-    subst (λ (p : ℕ). (if nat_lt p (length xs) then Some p else None) ≡ None) (sym at) (cond-false _ _ _ (le-ltb (length xs) (length xs) (omega arith))) in
+    subst (λ (p : ℕ). (if nat_lt p (length xs) then Some p else None) ≡ None) (sym at)
+    (cond-false _ _ _ (le-ltb (length xs) (length xs) (omega arith))) in
     ap (λ (place : Option ℕ). behind_place place xs) found
 
 -- what each tuple keeps
@@ -152,7 +167,8 @@ All-drop P zero xs all = all
 All-drop P (suc p) [] all = tt
 All-drop P (suc p) (x ∷ xs) all = All-drop P p xs all.1
 
-pub All-behind_place : (P : Tuple → Type 0) (place : Option ℕ) (xs : List Tuple) → AllByRecursion P xs → AllByRecursion P (behind_place place xs)
+pub All-behind_place : (P : Tuple → Type 0) (place : Option ℕ) (xs : List Tuple) → AllByRecursion P xs
+    → AllByRecursion P (behind_place place xs)
 All-behind_place P None xs all = all
 All-behind_place P (Some place) xs all = All-drop P (place + 1) xs all
 
@@ -197,11 +213,13 @@ up_to-le (suc n) xs each =
     let rest = up_to-le n xs (λ k within. each k (record { from_one = within.from_one; to_n = omega (arith, within.to_n) })) in
     omega (arith, rest, each (suc n) (record { from_one = omega arith; to_n = omega arith }))
 
-up_to-lt : (n i : ℕ) (xs : List Tuple) → IsClient n i → tuples_by i xs ≡ 0 → ((k : ℕ) → IsClient n k → tuples_by k xs ≤ 1) → tuples_up_to n xs < n
+up_to-lt : (n i : ℕ) (xs : List Tuple) → IsClient n i → tuples_by i xs ≡ 0 → ((k : ℕ) → IsClient n k → tuples_by k xs ≤ 1)
+    → tuples_up_to n xs < n
 unfolding tuples_up_to
 up_to-lt zero i xs within none each = absurd (omega (arith, within.from_one, within.to_n))
 up_to-lt (suc n) i xs within none each =
-    let below : (k : ℕ) → IsClient n k → tuples_by k xs ≤ 1 = λ k inside. each k (record { from_one = inside.from_one; to_n = omega (arith, inside.to_n) }) in
+    let below : (k : ℕ) → IsClient n k → tuples_by k xs ≤ 1 = λ k inside. each k
+    (record { from_one = inside.from_one; to_n = omega (arith, inside.to_n) }) in
     let last : tuples_by (suc n) xs ≤ 1 = each (suc n) (record { from_one = omega arith; to_n = omega arith }) in
     elim (cases_eq i (suc n)) [
       | inl e ↦ let empty : tuples_by (suc n) xs ≡ 0 = subst (λ (x : ℕ). tuples_by x xs ≡ 0) e none in omega (arith, up_to-le n xs below)
@@ -209,5 +227,6 @@ up_to-lt (suc n) i xs within none each =
     ]
 
 -- where each of n clients has at most one tuple, and one of them none, the list has fewer than n
-pub few_tuples : (n i : ℕ) (xs : List Tuple) → AllByRecursion (IsTupleFor n) xs → IsClient n i → tuples_by i xs ≡ 0 → ((k : ℕ) → IsClient n k → tuples_by k xs ≤ 1) → length xs < n
+pub few_tuples : (n i : ℕ) (xs : List Tuple) → AllByRecursion (IsTupleFor n) xs → IsClient n i → tuples_by i xs ≡ 0
+    → ((k : ℕ) → IsClient n k → tuples_by k xs ≤ 1) → length xs < n
 few_tuples n i xs all within none each = omega (arith, length-up_to n xs all, up_to-lt n i xs within none each)

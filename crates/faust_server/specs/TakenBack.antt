@@ -1,5 +1,5 @@
 -- A COMMIT is taken back: what it replaced stands again. It only helps the proof of `Server::submit`.
-use Rattle.std.specs.Prelude.{ℕ, ◌-◌, slice_set, Some}
+use Rattle.std.specs.Prelude.{ℕ, ◌-◌, slice_set}
 use Rattle.faust_server.specs.Rows.{State, version_at, proof_at, turn_at}
 use Rattle.faust_server.specs.declared.server.Replaced.{Replaced}
 

@@ -10,4 +10,5 @@ invariant_of-result c =
     let versions : c.from_vec-2.result ≡ replicate c.args.n (unmade c.args.n) = search rules in
     let proofs : c.from_vec-3.result ≡ replicate c.args.n None = search rules in
     let turns : c.from_vec-4.result ≡ replicate c.args.n first_turn = search rules in
-    rw (memory, versions, c.new.ensures, proofs, turns) (IsState-for c.args.n (first_state c.args.n) (IsStateFor-first c.args.n c.requires))
+    rw (memory, versions, c.new.ensures, proofs, turns)
+    (IsState-for c.args.n (first_state c.args.n) (IsStateFor-first c.args.n c.requires))

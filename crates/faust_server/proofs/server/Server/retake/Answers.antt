@@ -5,6 +5,8 @@ use Rattle.faust_server.proofs.server.Server.retake.Goals.{then-not-uncommitted,
 
 pub invariant_of-self : goal.invariant_of-self
 invariant_of-self c = elim c.if-not-uncommitted.branch [
-  | then-not-uncommitted w ↦ rw (c.set.ensures, w.self-inside-is, w.leave.ensures.value, w.if-not-uncommitted.true) (IsState-retaken _ _ c.args.i c.self.view_is c.self.invariant c.requires.client c.args.last false c.requires.below)
-  | else-not-uncommitted w ↦ rw (c.set.ensures, w.self-inside-is, w.if-not-uncommitted.false) (IsState-retaken _ _ c.args.i c.self.view_is c.self.invariant c.requires.client c.args.last true c.requires.below)
+  | then-not-uncommitted w ↦ rw (c.set.ensures, w.self-inside-is, w.leave.ensures.value, w.if-not-uncommitted.true)
+      (IsState-retaken _ _ c.args.i c.self.view_is c.self.invariant c.requires.client c.args.last false c.requires.below)
+  | else-not-uncommitted w ↦ rw (c.set.ensures, w.self-inside-is, w.if-not-uncommitted.false)
+      (IsState-retaken _ _ c.args.i c.self.view_is c.self.invariant c.requires.client c.args.last true c.requires.below)
 ]

@@ -1,4 +1,4 @@
-use Rattle.std.proofs.Common.{◌≡◌, Option, Some, IfSome, sym, subst}
+use Rattle.std.proofs.Common.{Option, IfSome, sym, subst}
 use Rattle.faust_types.specs.Ranges.{IsCommitFor}
 use Rattle.faust_types.specs.declared.message.Commit.{Commit}
 use Rattle.faust_server.specs.Rows.{client_count}

@@ -1,8 +1,8 @@
-use Rattle.std.proofs.Common.{◌≡◌, true, Result, Ok, sym, ap, ◌∙◌, subst, rules}
+use Rattle.std.proofs.Common.{◌≡◌, true, Result, sym, ap, ◌∙◌, subst, rules}
 use Rattle.std.proofs.lemmas.Bool.{cond-true}
 use Rattle.faust_types.specs.Versions.{timestamp_at}
 use Rattle.faust_server.specs.declared.refusal.OutOfTurn.{OutOfTurn}
-use Rattle.faust_server.specs.Rows.{State, turn_at, is_commit_in_turn, advanced, settled, committed, submitted_alone, then_submitted}
+use Rattle.faust_server.specs.Rows.{State, turn_at, is_commit_in_turn, committed, submitted_alone, then_submitted}
 use Rattle.faust_server.specs.States.{IsState}
 use Rattle.faust_server.proofs.Rows.{back_again, refused-same, refused-behind}
 use Rattle.faust_server.proofs.server.Server.submit_behind.Goals as goal

@@ -7,4 +7,9 @@ pub returns : goal.returns
 returns c =
     let tag : IsDigest (replicate 32 c.args.byte) = IsDigest-replicate c.args.byte (omega arith) in
     let asserted : c.is_initial.result ≡ false = search rules in
-    record { version_in_range = c.put-2.ensures; not_initial = sym c.is_initial.ensures.test ∙ asserted; commit_tag_sized = tag; proof_tag_sized = tag }
+    record {
+      version_in_range = c.put-2.ensures;
+      not_initial = sym c.is_initial.ensures.test ∙ asserted;
+      commit_tag_sized = tag;
+      proof_tag_sized = tag;
+    }

@@ -8,7 +8,8 @@ returns-in_ok-from_slice c =
     let tag : IsDigest (replicate 32 c.args.byte) = IsDigest-replicate c.args.byte (omega arith) in
     let text = c.in_ok-from_slice.field-0 in
     let is : text ≡ replicate 1 c.args.byte = c.in_ok-from_slice.ensures in
-    let value : IsValue text = subst IsValue (sym is) (record { sized = omega arith; bytes_each = AreBytes-replicate 1 c.args.byte (omega arith) }) in
+    let value : IsValue text = subst IsValue (sym is)
+    (record { sized = omega arith; bytes_each = AreBytes-replicate 1 c.args.byte (omega arith) }) in
     record {
       register_in_range = c.requires.client;
       number = c.requires.number;
