@@ -1,5 +1,5 @@
 -- The machine that plays the events: what each of its steps does to the counts of a client.
-use Rattle.std.specs.Prelude.{◌≡◌, ◌≢◌, ℕ, ◌==◌, if◌then◌else◌, ◌+◌, ◌*◌, ◌<◌, ◌≤◌, ◌↔◌, true, false, List, Result, Ok, Err, IfSome, IsSome}
+use Rattle.std.specs.Prelude.{◌≡◌, ◌≢◌, ℕ, ◌==◌, if◌then◌else◌, ◌+◌, ◌*◌, ◌<◌, ◌≤◌, ◌↔◌, true, false, List, Result, Ok, Err, IfSome, IsNone, IsSome}
 use Rattle.faust_types.specs.Clients.{IsClient}
 use Rattle.faust_types.specs.Versions.{timestamp_at}
 use Rattle.faust_types.specs.Ranges.{IsSubmitFor, IsCommitFor}
@@ -20,10 +20,11 @@ use Rattle.faust_top.specs.declared.machine.Machine.{Machine}
 use Rattle.faust_top.specs.Script.{Counts, CanAct, counts_of, client_of}
 use Rattle.faust_top.specs.Report.{name, seen_by}
 
--- A SUBMIT of operation t, and a COMMIT of it by client i.
+-- A SUBMIT of operation t on which no COMMIT rides, and a COMMIT of it by client i.
 pub record IsSubmitOf (t : ℕ) (submit : Submit) : Type 0 where
   pub in_range : IsSubmitFor 2 submit
   pub numbered : submit.t ≡ t
+  pub alone : IsNone submit.commit
 
 pub record IsCommitOf (i t : ℕ) (commit : Commit) : Type 0 where
   pub in_range : IsCommitFor 2 commit
@@ -32,17 +33,17 @@ pub record IsCommitOf (i t : ℕ) (commit : Commit) : Type 0 where
 -- Bytes that spell such messages, and bytes that spell a reply.
 pub record IsSubmitBytes (t : ℕ) (bytes : List ℕ) : Type 0 where
   pub submit : Submit
-  pub spelled : IsSpellingOf 2 bytes (all_messages.Submit submit)
+  pub spelled : IsSpellingOf 1 2 bytes (all_messages.Submit submit)
   pub numbered : submit.t ≡ t
 
 pub record IsCommitBytes (i t : ℕ) (bytes : List ℕ) : Type 0 where
   pub commit : Commit
-  pub spelled : IsSpellingOf 2 bytes (all_messages.Commit commit)
+  pub spelled : IsSpellingOf 1 2 bytes (all_messages.Commit commit)
   pub numbered : timestamp_at commit.version i ≡ t
 
 pub record IsReplyBytes (bytes : List ℕ) : Type 0 where
   pub reply : messages.Reply
-  pub spelled : IsSpellingOf 2 bytes (all_messages.Reply reply)
+  pub spelled : IsSpellingOf 1 2 bytes (all_messages.Reply reply)
 
 -- Client i with its messages on their way: which are on their way follows from its counts.
 pub record IsParty (i : ℕ) (party : Party) : Type 0 where

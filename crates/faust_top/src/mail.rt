@@ -15,6 +15,9 @@ use faust_types::{Bytes, Commit, Digest, Kind, Message, OutOfMemory, Reply, Subm
 use faust_wire::{WireError, decode, encode};
 use std::alloc::Global;
 
+/// The version of the wire that the program's clients and server speak.
+const WIRE: u8 = 1;
+
 /// The key that the head of every script names.
 const KEY: &[u8] = &[0, 1, 2, 3, 4, 5, 6, 7, 8, 9, 10, 11, 12, 13, 14, 15];
 
@@ -33,8 +36,9 @@ pub fn submit_bytes(alloc: Global, me: u8, t: u64, value: &Bytes) -> Result<Byte
         value: Some(value.copy()?),
         submit_tag: submit_tag(KEY, me, Kind::Write, me, t),
         data_tag: data_tag(KEY, me, t, Some(&digest)),
+        commit: None,
     };
-    encode(alloc, 2, &Message::Submit(submit))
+    encode(alloc, WIRE, 2, &Message::Submit(submit))
 }
 
 /// The COMMIT of operation t of client `me`, with its version and the own digest in it.
@@ -56,7 +60,7 @@ pub fn commit_bytes(
         commit_tag,
         proof_tag: proof_tag(KEY, me, own),
     };
-    encode(alloc, 2, &Message::Commit(commit))
+    encode(alloc, WIRE, 2, &Message::Commit(commit))
 }
 
 /// The bytes of a reply.
@@ -64,7 +68,7 @@ pub fn reply_bytes(alloc: Global, reply: Reply) -> Result<Bytes, OutOfMemory>
     requires { IsReplyFor 2 reply }
     ensures { IfOk result IsReplyBytes }
 {
-    encode(alloc, 2, &Message::Reply(reply))
+    encode(alloc, WIRE, 2, &Message::Reply(reply))
 }
 
 /// The SUBMIT of operation t that the bytes spell.
@@ -72,7 +76,7 @@ pub fn read_submit(alloc: Global, bytes: &Bytes, t: u64) -> Result<Submit, OutOf
     requires { IsSubmitBytes t bytes.now }
     ensures { IfOk result (IsSubmitOf t) }
 {
-    match decode(alloc, 2, bytes.as_slice()) {
+    match decode(alloc, WIRE, 2, bytes.as_slice()) {
         Ok(message) => Ok(submit_in(message)),
         Err(WireError::OutOfMemory) => Err(OutOfMemory),
         Err(WireError::Malformed) => unreachable!(),
@@ -84,7 +88,7 @@ pub fn read_commit(alloc: Global, bytes: &Bytes, me: u8, t: u64) -> Result<Commi
     requires { IsCommitBytes me t bytes.now }
     ensures { IfOk result (IsCommitOf me t) }
 {
-    match decode(alloc, 2, bytes.as_slice()) {
+    match decode(alloc, WIRE, 2, bytes.as_slice()) {
         Ok(message) => Ok(commit_in(message)),
         Err(WireError::OutOfMemory) => Err(OutOfMemory),
         Err(WireError::Malformed) => unreachable!(),
@@ -96,7 +100,7 @@ pub fn read_reply(alloc: Global, bytes: &Bytes) -> Result<Reply, OutOfMemory>
     requires { IsReplyBytes bytes.now }
     ensures { IfOk result (IsReplyFor 2) }
 {
-    match decode(alloc, 2, bytes.as_slice()) {
+    match decode(alloc, WIRE, 2, bytes.as_slice()) {
         Ok(message) => Ok(reply_in(message)),
         Err(WireError::OutOfMemory) => Err(OutOfMemory),
         Err(WireError::Malformed) => unreachable!(),

@@ -10,16 +10,16 @@ use Rattle.faust_wire.specs.Reading.{IsReadAs}
 use Rattle.faust_top.proofs.mail.read_commit.Goals as goal
 
 pub commit_in-requires : goal.commit_in-requires
-commit_in-requires c = (c.requires.commit, c.in-Ok.ensures.only (messages.Commit c.requires.commit) (subst (λ (b : List ℕ). IsSpellingOf 2 b (messages.Commit c.requires.commit)) (sym c.as_slice.ensures) c.requires.spelled))
+commit_in-requires c = (c.requires.commit, c.in-Ok.ensures.only (messages.Commit c.requires.commit) (subst (λ (b : List ℕ). IsSpellingOf 1 2 b (messages.Commit c.requires.commit)) (sym c.as_slice.ensures) c.requires.spelled))
 
 pub unreachable-requires : goal.unreachable-requires
 unreachable-requires c =
     subst (λ (e : WireError). IsReadAs (Err e) (messages.Commit c.requires.commit)) c.in-Err-Malformed.field-0-is
-    (c.in-Err-Malformed.ensures.only (messages.Commit c.requires.commit) (subst (λ (b : List ℕ). IsSpellingOf 2 b (messages.Commit c.requires.commit)) (sym c.as_slice.ensures) c.requires.spelled))
+    (c.in-Err-Malformed.ensures.only (messages.Commit c.requires.commit) (subst (λ (b : List ℕ). IsSpellingOf 1 2 b (messages.Commit c.requires.commit)) (sym c.as_slice.ensures) c.requires.spelled))
 
 pub returns-in-Ok : goal.returns-in-Ok
 returns-in-Ok c =
-    let spelled = c.in-Ok.ensures.only (messages.Commit c.requires.commit) (subst (λ (b : List ℕ). IsSpellingOf 2 b (messages.Commit c.requires.commit)) (sym c.as_slice.ensures) c.requires.spelled) in
+    let spelled = c.in-Ok.ensures.only (messages.Commit c.requires.commit) (subst (λ (b : List ℕ). IsSpellingOf 1 2 b (messages.Commit c.requires.commit)) (sym c.as_slice.ensures) c.requires.spelled) in
     let same : c.commit_in.result ≡ c.requires.commit = cc (c.commit_in.ensures, spelled) in
     record {
       in_range = subst (λ (m : Message). IsMessageFor 2 m) c.commit_in.ensures c.in-Ok.ensures.found.in_range;
