@@ -1,21 +1,22 @@
 -- Fields and the tokens that spell them.
-use Rattle.std.proofs.Common.{◌≡◌, ℕ, ◌≤◌, Bool, true, false, cond, leb, ◌&&◌, List, [], ◌∷◌, length, Option, Some, None, Result, Ok, Err, refl, sym, ap, ◌∙◌, ◌⊎◌, ◌↔◌, ◌≢◌, inl, inr, arith}
+use Rattle.std.proofs.Common.{◌≡◌, ℕ, ◌<◌, ◌≤◌, zero, suc, option_map, Bool, true, false, cond, leb, ◌&&◌, List, [], ◌∷◌, length, Option, Some, None, Result, Ok, Err, refl, sym, ap, ◌∙◌, ◌⊎◌, ◌↔◌, ◌≢◌, inl, inr, arith}
 use Rattle.std.specs.Prelude.{codes}
+use Rattle.std.specs.List.{AllByRecursion}
 use Rattle.std.specs.Result.{result_unwrap_or}
 use Rattle.std.specs.Str.{bytes_eq}
 use Rattle.std.proofs.lemmas.Bool.{cond-true, cond-false, and_parts, and_from, and_cases, leb-true, leb-false, le-leb, both_ways, false_from_ne_true, false≢true, and_left, and_right, lt-leb}
 use Rattle.std.proofs.lemmas.Slice.Eq.{bytes_eq-Decides}
 use Rattle.hex.specs.Hex.{encode_lower, decode_pairs}
-use Rattle.faust_types.specs.Ranges.{AreBytes}
+use Rattle.faust_types.specs.Bytes.{AreBytes}
 use Rattle.faust_types.specs.declared.operation.Kind.{Kind}
 use Rattle.faust_types.specs.declared.operation.Kind.TheVariants as kinds
 use Rattle.faust_text.specs.declared.cause.Cause.{Cause}
 use Rattle.faust_text.specs.declared.cause.Cause.TheVariants as causes
-use Rattle.faust_text.specs.Fields.{Field, Given, AllGiven, begins_as_value, word, number, any_number, kind, value, bytes, key, ◌>>=◌, or_cause, some_key, field_at, fields_at}
+use Rattle.faust_text.specs.Fields.{Field, Given, AllGiven, begins_as_value, word, one_of, place_of, number, any_number, kind, value, bytes, key, ◌>>=◌, or_cause, some_key, field_at, fields_at}
 use Rattle.faust_text.specs.Numbers.{is_number, worth}
-use Rattle.faust_text.specs.Spelled.{IsNumberIn, kind_text, SpellsField, SpellsFields, IsFault, IsFirstFault}
+use Rattle.faust_text.specs.Spelled.{IsInRange, AreInRange, IsNumberIn, IsWordAt, kind_text, SpellsField, SpellsFields, IsFault, IsFirstFault}
 use Rattle.faust_text.specs.Values.{SpellsValue, bytes_of, bytes_text, hex_of, value_of}
-use Rattle.faust_text.proofs.ValueLaws.{values_are, bytes_are, hex-are}
+use Rattle.faust_text.proofs.ValueLaws.{values_are, bytes_are, hex-are, none_from}
 
 -- The steps of reading, taken apart.
 pub ok_same : {A : Type 0} (x y : A) → (let left : Result A Cause = Ok x in left ≡ Ok y) → x ≡ y
@@ -28,6 +29,13 @@ bind_ok (Err cause) f y found = absurd (cc)
 pub bind_err : {A B : Type 0} (r : Result A Cause) (f : A → Result B Cause) (cause : Cause) → (r >>= f) ≡ Err cause → (r ≡ Err cause) ⊎ ((x : A) × (r ≡ Ok x) × (f x ≡ Err cause))
 bind_err (Ok x) f cause found = inr (x, refl, found)
 bind_err (Err e) f cause found = inl (cc)
+
+pub some_same : (x y : ℕ) → (let left : Option ℕ = Some x in left ≡ Some y) → x ≡ y
+some_same x y same = cc
+
+none_mapped : (o : Option ℕ) → option_map (λ p. suc p) o ≡ None → o ≡ None
+none_mapped None none = refl
+none_mapped (Some p) none = absurd (cc)
 
 -- A choice by a test, taken apart.
 chosen : {A : Type 0} (b : Bool) (x y z : A) → cond b x y ≡ z → ((b ≡ true) × (x ≡ z)) ⊎ ((b ≡ false) × (y ≡ z))
@@ -50,6 +58,63 @@ word_spells text token given = (
     | inr other ↦ absurd (let e = other.1 in cc)
   ],
   λ same. cond-true (bytes_eq token text) (Ok tt) (Err causes.Word) ((bytes_eq-Decides token text).1 same),
+)
+
+next_place : (o : Option ℕ) (place : ℕ) → option_map (λ p. suc p) o ≡ Some place → (p : ℕ) × (o ≡ Some p) × (suc p ≡ place)
+next_place None place found = absurd (cc)
+next_place (Some p) place found = (p, refl, cc)
+
+-- The place of a token among words.
+place_is : (words : List (List ℕ)) (token : List ℕ) (place : ℕ) → (place_of words token ≡ Some place) ↔ IsWordAt words place token
+place_is [] token place = (λ found. absurd (cc), λ is. absurd is)
+place_is (text ∷ texts) token zero =
+    let later = option_map (λ p. suc p) (place_of texts token) in (
+      λ found. elim (chosen (bytes_eq token text) (Some 0) later (Some 0) found) [
+        | inl same ↦ (bytes_eq-Decides token text).0 same.0
+        | inr other ↦ absurd (let next = next_place (place_of texts token) 0 other.1 in let e = next.2 in omega arith)
+      ],
+      λ same. cond-true (bytes_eq token text) (Some 0) later ((bytes_eq-Decides token text).1 same),
+    )
+place_is (text ∷ texts) token (suc place) =
+    let later = option_map (λ p. suc p) (place_of texts token) in (
+      λ found. elim (chosen (bytes_eq token text) (Some 0) later (Some (suc place)) found) [
+        | inl same ↦ absurd (let e : 0 ≡ suc place = some_same 0 (suc place) same.1 in omega arith)
+        | inr other ↦
+            let next = next_place (place_of texts token) (suc place) other.1 in
+            let here : next.0 ≡ place = let e = next.2 in omega arith in
+            (λ same. both_ways (bytes_eq token text) other.0 ((bytes_eq-Decides token text).1 same), (place_is texts token place).0 (next.1 ∙ ap Some here))
+      ],
+      λ is.
+          cond-false (bytes_eq token text) (Some 0) later (false_from_ne_true (bytes_eq token text) (λ same. is.0 ((bytes_eq-Decides token text).0 same)))
+          ∙ ap (option_map (λ p. suc p)) ((place_is texts token place).1 is.1),
+    )
+
+no_place : (words : List (List ℕ)) (token : List ℕ) → (place_of words token ≡ None) ↔ AllByRecursion (λ text. token ≢ text) words
+no_place [] token = (λ found. tt, λ is. refl)
+no_place (text ∷ texts) token =
+    let later = option_map (λ p. suc p) (place_of texts token) in (
+      λ found. elim (chosen (bytes_eq token text) (Some 0) later None found) [
+        | inl same ↦ absurd (let e = same.1 in cc)
+        | inr other ↦ (λ same. both_ways (bytes_eq token text) other.0 ((bytes_eq-Decides token text).1 same), (no_place texts token).0 (none_mapped (place_of texts token) other.1))
+      ],
+      λ is.
+          cond-false (bytes_eq token text) (Some 0) later (false_from_ne_true (bytes_eq token text) (λ same. is.0 ((bytes_eq-Decides token text).0 same)))
+          ∙ ap (option_map (λ p. suc p)) ((no_place texts token).1 is.1),
+    )
+
+place_ok : (o : Option ℕ) (place : ℕ) → or_cause o causes.Word ≡ Ok place → o ≡ Some place
+place_ok None place found = absurd (cc)
+place_ok (Some p) place found = cc
+
+place_err : (o : Option ℕ) (cause : Cause) → or_cause o causes.Word ≡ Err cause → (o ≡ None) × (cause ≡ causes.Word)
+place_err None cause found = (refl, cc)
+place_err (Some p) cause found = absurd (cc)
+
+one_of_spells : (words : List (List ℕ)) (token : List ℕ) (place : ℕ) → (field_at (one_of words) token ≡ Ok place) ↔ IsWordAt words place token
+unfolding field_at
+one_of_spells words token place = (
+  λ found. (place_is words token place).0 (place_ok (place_of words token) place found),
+  λ is. ap (λ o. or_cause o causes.Word) ((place_is words token place).1 is),
 )
 
 number_spells : (low high : ℕ) (token : List ℕ) (x : ℕ) → (field_at (number low high) token ≡ Ok x) ↔ IsNumberIn low high x token
@@ -148,6 +213,7 @@ key_spells token given = (
 -- A token gives in a field what it spells, and nothing else.
 pub field_spells : (field : Field) (token : List ℕ) (given : Given field) → (field_at field token ≡ Ok given) ↔ SpellsField field given token
 field_spells (word text) token given = word_spells text token given
+field_spells (one_of words) token given = one_of_spells words token given
 field_spells (number low high) token given = number_spells low high token given
 field_spells any_number token given = any_number_spells token given
 field_spells kind token given = kind_spells token given
@@ -186,6 +252,13 @@ word_faults text token cause = (
     | inr other ↦ (let e = other.1 in cc, λ same. both_ways (bytes_eq token text) other.0 ((bytes_eq-Decides token text).1 same))
   ],
   λ is. cond-false (bytes_eq token text) (Ok tt) (Err causes.Word) (false_from_ne_true (bytes_eq token text) (λ same. is.1 ((bytes_eq-Decides token text).0 same))) ∙ ap Err (sym is.0),
+)
+
+one_of_faults : (words : List (List ℕ)) (token : List ℕ) (cause : Cause) → (field_at (one_of words) token ≡ Err cause) ↔ ((cause ≡ causes.Word) × AllByRecursion (λ text. token ≢ text) words)
+unfolding field_at
+one_of_faults words token cause = (
+  λ found. let none = place_err (place_of words token) cause found in (none.1, (no_place words token).0 none.0),
+  λ is. ap (λ o. or_cause o causes.Word) ((no_place words token).1 is.1) ∙ ap Err (sym is.0),
 )
 
 number_faults : (low high : ℕ) (token : List ℕ) (cause : Cause) → (field_at (number low high) token ≡ Err cause) ↔ IsFault (number low high) token cause
@@ -240,10 +313,6 @@ kind_faults token cause = (
 
 none_spelled : (o : Option (List ℕ)) → o ≡ None → (x : List ℕ) → o ≡ Some x → ⊥
 none_spelled o none x some = let e = sym none ∙ some in absurd (cc)
-
-none_from : (o : Option (List ℕ)) → ((x : List ℕ) → o ≡ Some x → ⊥) → o ≡ None
-none_from None none = refl
-none_from (Some x) none = absurd (none x refl)
 
 -- A field that begins as a value does and holds what an option does.
 value_like : (begins : Bool) (o : Option (List ℕ)) (cause : Cause) → (cond begins (or_cause o causes.Value) (Err causes.Word) ≡ Err cause) ↔ (((cause ≡ causes.Word) × (begins ≡ false)) ⊎ ((cause ≡ causes.Value) × (begins ≡ true) × (o ≡ None)))
@@ -305,6 +374,7 @@ key_faults token cause = (
 
 pub field_faults : (field : Field) (token : List ℕ) (cause : Cause) → (field_at field token ≡ Err cause) ↔ IsFault field token cause
 field_faults (word text) token cause = word_faults text token cause
+field_faults (one_of words) token cause = one_of_faults words token cause
 field_faults (number low high) token cause = number_faults low high token cause
 field_faults any_number token cause = any_number_faults token cause
 field_faults kind token cause = kind_faults token cause
@@ -342,6 +412,27 @@ fields_fault (field ∷ fields) (token ∷ tokens) cause =
           ] in
           flat ∙ behind_first,
     )
+
+-- What a field gives is in its range.
+word_place-below : (words : List (List ℕ)) (place : ℕ) (token : List ℕ) → IsWordAt words place token → place < length words
+word_place-below [] place token is = absurd is
+word_place-below (text ∷ texts) zero token is = omega arith
+word_place-below (text ∷ texts) (suc place) token is = let more = word_place-below texts place token is.1 in omega (arith, more)
+
+field_in_range : (field : Field) (given : Given field) (token : List ℕ) → SpellsField field given token → IsInRange field given
+field_in_range (word text) given token is = tt
+field_in_range (one_of words) given token is = word_place-below words given token is
+field_in_range (number low high) given token is = (is.from, is.to)
+field_in_range any_number given token is = ap is_number is.1 ∙ is.0
+field_in_range kind given token is = tt
+field_in_range value given token is = record { sized = is.1; bytes_each = is.2 }
+field_in_range bytes given token is = (is.1, is.2)
+field_in_range key given token is = (record { not_empty = is.1; sized = is.2 }, is.3)
+
+pub fields_in_range : (fields : List Field) (given : AllGiven fields) (tokens : List (List ℕ)) → SpellsFields fields given tokens → AreInRange fields given
+fields_in_range [] given tokens is = tt
+fields_in_range (field ∷ fields) given [] is = absurd is
+fields_in_range (field ∷ fields) given (token ∷ tokens) is = (field_in_range field given.0 token is.0, fields_in_range fields given.1 tokens is.1)
 
 -- The shortest key.
 pub key_00 : field_at key (codes "00") ≡ Ok (0 ∷ [])

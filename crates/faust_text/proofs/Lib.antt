@@ -3,3 +3,5 @@ pub mod TokenLaws
 pub mod NumberLaws
 pub mod ValueLaws
 pub mod FieldLaws
+pub mod HeadLaws
+pub mod HeadPrints

@@ -1,5 +1,5 @@
 -- Lines read one by one.
-use Rattle.std.proofs.Common.{◌≡◌, ℕ, ◌+◌, ◌-◌, ◌<◌, ◌≤◌, suc, Bool, true, false, cond, eqb, ltb, List, [], ◌∷◌, ◌++◌, length, take, drop, slice_range, length-drop, refl, sym, ap, ◌∙◌, subst, inl, inr, ◌↔◌, arith}
+use Rattle.std.proofs.Common.{◌≡◌, ℕ, ◌+◌, ◌-◌, ◌<◌, ◌≤◌, suc, Bool, true, false, cond, eqb, ltb, List, [], ◌∷◌, ◌++◌, length, take, drop, slice_range, length-drop, refl, sym, ap, ◌∙◌, subst, inl, inr, ◌↔◌, arith, append_assoc}
 use Rattle.std.proofs.lemmas.Bool.{cond-true, cond-false, cases_Bool, eqb-true, false≢true}
 use Rattle.std.proofs.lemmas.Bool.Decides.{nat_tests}
 use Rattle.std.specs.List.{AllByRecursion, flat_map}
@@ -158,3 +158,21 @@ ended_text-only bytes texts are = (
   lines-together bytes ∙ (ap (flat_map whole) are ∙ whole-ended texts),
   without-ended texts (subst AreInOrder are (lines-ordered bytes)),
 )
+
+five_grouped : (a b c d e f : List ℕ) → ((((a ++ b) ++ c) ++ d) ++ e) ++ f ≡ a ++ (b ++ (c ++ (d ++ (e ++ f))))
+five_grouped a b c d e f = simp append_assoc
+
+ended_text-append : (xs ys : List (List ℕ)) → ended_text (xs ++ ys) ≡ ended_text xs ++ ended_text ys
+ended_text-append [] ys = refl
+ended_text-append (x ∷ xs) ys = ap (λ ts. (x ++ 10 ∷ []) ++ ts) (ended_text-append xs ys) ∙ sym (append_assoc (x ++ 10 ∷ []) (ended_text xs) (ended_text ys))
+
+-- A text that is put together line by line, with some lines behind the first.
+pub lines_put : (a : List ℕ) (some : List (List ℕ)) (b c d e : List ℕ)
+    → (((((a ++ 10 ∷ []) ++ ended_text some) ++ (b ++ 10 ∷ [])) ++ (c ++ 10 ∷ [])) ++ (d ++ 10 ∷ [])) ++ (e ++ 10 ∷ []) ≡ ended_text (a ∷ (some ++ (b ∷ c ∷ d ∷ e ∷ [])))
+lines_put a some b c d e =
+    let last : ended_text (b ∷ c ∷ d ∷ e ∷ []) ≡ (b ++ 10 ∷ []) ++ ((c ++ 10 ∷ []) ++ ((d ++ 10 ∷ []) ++ (e ++ 10 ∷ []))) =
+    ap (λ ts. (b ++ 10 ∷ []) ++ ((c ++ 10 ∷ []) ++ ((d ++ 10 ∷ []) ++ ts))) (append-nil (e ++ 10 ∷ [])) in
+    let whole : ended_text (some ++ (b ∷ c ∷ d ∷ e ∷ [])) ≡ ended_text some ++ ((b ++ 10 ∷ []) ++ ((c ++ 10 ∷ []) ++ ((d ++ 10 ∷ []) ++ (e ++ 10 ∷ [])))) =
+    ended_text-append some (b ∷ c ∷ d ∷ e ∷ []) ∙ ap (λ ts. ended_text some ++ ts) last in
+    five_grouped (a ++ 10 ∷ []) (ended_text some) (b ++ 10 ∷ []) (c ++ 10 ∷ []) (d ++ 10 ∷ []) (e ++ 10 ∷ [])
+    ∙ ap (λ ts. (a ++ 10 ∷ []) ++ ts) (sym whole)

@@ -85,7 +85,7 @@ by_first : (token : List ℕ) → 48 < get_or token 0 0 → list_all is_ascii_di
 by_first [] first digits = absurd (omega arith)
 by_first (d ∷ ds) first digits = cond-false (eqb d 48) _ _ (ne_eqb d 48 (λ e. omega arith)) ∙ digits
 
-is_number-decimal : (x : ℕ) → x < 2 ^ 64 → is_number (decimal x) ≡ true
+pub is_number-decimal : (x : ℕ) → x < 2 ^ 64 → is_number (decimal x) ≡ true
 is_number-decimal zero small = ap is_number (decimal_digit 0 (omega arith))
 is_number-decimal (suc x) small =
     let first = first_decimal (suc x) (omega arith) small in

@@ -1,8 +1,10 @@
 -- Tokens read one by one.
 use Rattle.std.proofs.Common.{◌≡◌, ℕ, ◌+◌, ◌-◌, ◌<◌, ◌≤◌, zero, suc, min, true, false, cond, eqb, List, [], ◌∷◌, ◌++◌, length, get_or, take, drop, map, Option, Some, None, refl, sym, ap, ◌∙◌, subst, ◌⊎◌, inl, inr, arith, length-drop, length-append, append_assoc, add-one}
-use Rattle.std.proofs.lemmas.List.{at_drop_more, drop-drop, drop_all, drop_more, take_all, take_at, drop_at, append-nil}
-use Rattle.std.proofs.lemmas.Bool.{cond-true, cond-false, cases_Bool, eqb-true, eq-eqb}
+use Rattle.std.proofs.lemmas.List.{at_drop_more, drop-drop, length-take, take-append-drop, drop_all, drop_more, take_all, take_at, drop_at, append-nil}
+use Rattle.std.proofs.lemmas.Bool.{cond-true, cond-false, cases_Bool, eqb-true, eq-eqb, or_parts}
 use Rattle.std.proofs.lemmas.Bool.Decides.{nat_tests}
+use Rattle.std.specs.Prelude.{slice_range}
+use Rattle.std.specs.List.{list_any}
 use Rattle.std.specs.Option.{option_map_or}
 use Rattle.faust_text.specs.Tokens.{len_before, token_len, first_token, without_blank, after_token, token_rests_up_to, token_rests, token_place, token_places, tokens_of, tokens_left, joined, IsPlainToken, CanBeJoined}
 use Rattle.faust_text.specs.Lines.{IsWithout, text_in}
@@ -226,3 +228,25 @@ joined_are_read (token ∷ []) can = elim can [
   | inr quoted ↦ last_token token (ap token_len quoted.1 ∙ (quoted_len quoted.0 quoted.2 ∙ ap length (sym quoted.1)))
 ]
 joined_are_read (token ∷ next ∷ tokens) can = plain_more token (joined (next ∷ tokens)) can.0 ∙ ap (λ ts. token ∷ ts) (joined_are_read (next ∷ tokens) can.1)
+
+-- Bytes that lack a kind stand before its first.
+pub len_before-skip : (b : ℕ) (xs ys : List ℕ) → list_any (λ x. eqb x b) xs ≡ false → len_before b (xs ++ ys) ≡ length xs + len_before b ys
+len_before-skip b [] ys none = omega arith
+len_before-skip b (x ∷ xs) ys none =
+    let parts = or_parts (eqb x b) _ none in
+    let more = len_before-skip b xs ys parts.1 in
+    cond-false (eqb x b) 0 (suc (len_before b (xs ++ ys))) parts.0 ∙ omega (arith, more)
+
+pub len_before-block : (b : ℕ) (xs : List ℕ) (at n : ℕ)
+    → list_any (λ x. eqb x b) (slice_range xs at (at + n)) ≡ false → at + n ≤ length xs
+    → n + len_before b (drop (at + n) xs) ≡ len_before b (drop at xs)
+len_before-block b xs at n none within =
+    let count : (at + n) - at ≡ n = omega arith in
+    let lacks : list_any (λ x. eqb x b) (take n (drop at xs)) ≡ false = ap (λ k. list_any (λ x. eqb x b) (take k (drop at xs))) (sym count) ∙ none in
+    let behind : drop n (drop at xs) ≡ drop (at + n) xs = drop-drop n at xs in
+    let parted : drop at xs ≡ take n (drop at xs) ++ drop n (drop at xs) = sym (take-append-drop n (drop at xs)) in
+    let sized : length (take n (drop at xs)) ≡ n = omega (arith, length-take n (drop at xs), length-drop at xs) in
+    let skip = len_before-skip b (take n (drop at xs)) (drop n (drop at xs)) lacks in
+    let rest = ap (len_before b) behind in
+    let whole = ap (len_before b) parted in
+    omega (arith, skip, sized, rest, whole)

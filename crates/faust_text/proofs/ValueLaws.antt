@@ -1,15 +1,21 @@
 -- Values and hexadecimal digits.
-use Rattle.std.proofs.Common.{◌≡◌, ℕ, ◌+◌, ◌-◌, ◌*◌, ◌/◌, ◌%◌, ◌<◌, ◌≤◌, zero, suc, Bool, true, false, not, ◌||◌, cond, eqb, leb, ◌&&◌, List, [], ◌∷◌, ◌++◌, length, get_or, Option, Some, None, option_map, Result, Ok, Err, refl, sym, ap, ◌∙◌, inl, inr, ◌↔◌, arith, length-append}
-use Rattle.std.proofs.lemmas.Bool.{cond-true, cond-false, cases_Bool, eqb-true, eq-eqb, both_ways, le-leb, leb-true, and_parts, and_from, or_cases, not-true, agree_below_at}
+use Rattle.std.proofs.Common.{◌≡◌, ℕ, ◌+◌, ◌-◌, ◌*◌, ◌/◌, ◌%◌, ◌<◌, ◌≤◌, ◌≢◌, max, zero, suc, Bool, true, false, not, ◌||◌, cond, eqb, leb, ◌&&◌, List, [], ◌∷◌, ◌++◌, length, get_or, Option, Some, None, option_map, Result, Ok, Err, refl, sym, ap, ◌∙◌, inl, inr, ◌↔◌, arith, length-append, append_assoc, add-one, take, drop, drop-cons}
+use Rattle.std.proofs.lemmas.Bool.{cond-true, cond-false, cases_Bool, eqb-true, eq-eqb, both_ways, le-leb, leb-true, and_parts, and_from, or_cases, not-true, false_from_ne_true, cases_eq, cases_lt, agree_below_at}
 use Rattle.std.proofs.lemmas.Bool.Decides.{nat_tests}
-use Rattle.std.proofs.lemmas.List.{nil_from_length}
+use Rattle.std.proofs.lemmas.Grind.{get_or-set_at}
+use Rattle.std.proofs.lemmas.List.{get_or-set_other, nil_from_length}
+use Rattle.std.proofs.lemmas.List.Folds.{list_all_at}
+use Rattle.std.proofs.Math.ListN.{set}
+use Rattle.std.proofs.Math.Seq.{take-suc-set}
 use Rattle.std.specs.List.{list_all}
 use Rattle.std.specs.Result.{result_ok}
 use Rattle.hex.specs.Hex.{decode_of, decode_pairs, encode_with, encode_lower, lower_digits, hex_digit_value, pair_value, ◌>>=◌}
 use Rattle.hex.proofs.HexLemmas.{decode_of-ok, decode_of-even, decode_of-encode_lower, length-encode_with}
 use Rattle.hex.specs.declared.error.FromHexError.{FromHexError}
-use Rattle.faust_types.specs.Ranges.{AreBytes}
-use Rattle.faust_text.specs.Values.{is_plain, is_hex, hex_of, bytes_of, bytes_text, quoted_text, value_text, SpellsValue, unquoted, within, value_of}
+use Rattle.faust_types.specs.Bytes.{AreBytes}
+use Rattle.faust_text.specs.declared.error.ValueError.{ValueError}
+use Rattle.faust_text.specs.declared.error.ValueError.TheVariants.{Bad, OutOfMemory}
+use Rattle.faust_text.specs.Values.{Decodes, Reads, is_plain, is_hex, digit_worth, hex_of, bytes_of, bytes_text, quoted_text, value_text, SpellsValue, unquoted, within, value_of}
 
 neither : (t : Bool) → cond {A = Option (List ℕ)} t None None ≡ None
 neither true = refl
@@ -48,6 +54,15 @@ within-last limit body value mark is =
     ap (λ bs. within limit (unquoted bs)) is ∙ (ap (within limit) (unquoted-last value mark)
     ∙ elim (eqb mark 34 && list_all is_plain value) as (λ t. within limit (cond t (Some value) None) ≡ cond (t && leb (length value) limit) (Some value) None) [ true ↦ refl | false ↦ refl ])
 
+drop-two : (xs : List ℕ) (i j : ℕ) → j ≡ i + 2 → i + 1 < length xs → drop i xs ≡ get_or xs i 0 ∷ get_or xs (i + 1) 0 ∷ drop j xs
+drop-two xs i j two below =
+    let first : i < length xs = omega arith in
+    let second : suc i < length xs = omega arith in
+    let next : suc i ≡ i + 1 = omega arith in
+    let last : suc (suc i) ≡ j = omega arith in
+    drop-cons xs i 0 first
+    ∙ ap (λ ys. get_or xs i 0 ∷ ys) (drop-cons xs (suc i) 0 second ∙ (ap (λ k. get_or xs k 0 ∷ drop (suc (suc i)) xs) next ∙ ap (λ k. get_or xs (i + 1) 0 ∷ drop k xs) last))
+
 -- Digits that decode, few enough.
 pub hex_of-found : (limit : ℕ) (digits bytes : List ℕ) → list_all is_hex digits ≡ true → length digits / 2 ≤ limit → decode_of digits ≡ Ok bytes → hex_of limit digits ≡ Some bytes
 unfolding hex_of
@@ -58,9 +73,6 @@ hex_of-found limit digits bytes all few found =
     ∙ (cond-true (leb (length digits) (2 * limit)) _ _ fits ∙ ap result_ok found)
 
 -- Lower-case digits and the bytes that they spell.
-abbrev digit_worth : ℕ → ℕ
-digit_worth c = cond (leb c 57) (c - 48) (c - 87)
-
 is_hex-at : (c : ℕ) → is_hex c ≡ true → (hex_digit_value c ≡ Some (digit_worth c)) × (digit_worth c < 16) × (c < 103)
 is_hex-at c is = (grind (arith, nat_tests), grind (arith, nat_tests), grind (arith, nat_tests))
 
@@ -99,7 +111,7 @@ decode_pairs-lower i (a ∷ b ∷ rest) bytes all found =
 lower_digits-hex : (n : ℕ) → n < 16 → is_hex (get_or lower_digits n 0) ≡ true
 lower_digits-hex n small = agree_below_at (λ k. is_hex (get_or lower_digits k 0)) (λ _. true) 16 n refl small
 
-encode_lower-hex : (bytes : List ℕ) → AreBytes bytes → list_all is_hex (encode_lower bytes) ≡ true
+pub encode_lower-hex : (bytes : List ℕ) → AreBytes bytes → list_all is_hex (encode_lower bytes) ≡ true
 unfolding encode_with
 encode_lower-hex [] fits = refl
 encode_lower-hex (b ∷ bs) fits =
@@ -146,6 +158,104 @@ bytes_are limit (b ∷ c ∷ digits) bytes = (
       let rest : digits ≡ encode_lower bytes = let e = is.0 in cc in
       cond-true (eqb b 48 && eqb c 120) (hex_of limit digits) None (and_from _ _ (eq-eqb b 48 first) (eq-eqb c 120 second)) ∙ (hex-are limit digits bytes).1 (rest, is.1, is.2),
 )
+
+-- Digits read one by one.
+encode_with-append : (table xs ys : List ℕ) → encode_with table (xs ++ ys) ≡ encode_with table xs ++ encode_with table ys
+unfolding encode_with
+encode_with-append table [] ys = refl
+encode_with-append table (x ∷ xs) ys = ap (λ zs. get_or table (x / 16) 0 ∷ get_or table (x % 16) 0 ∷ zs) (encode_with-append table xs ys)
+
+is_some_digit : (decimal letter : Bool) (x y : ℕ) → cond decimal x (cond letter y 16) < 16 → (decimal || letter) ≡ true
+is_some_digit true letter x y small = refl
+is_some_digit false true x y small = refl
+is_some_digit false false x y small = absurd (omega arith)
+
+pub worth-small : (c : ℕ) → digit_worth c < 16 → is_hex c ≡ true
+worth-small c small = is_some_digit (leb 48 c && leb c 57) (leb 97 c && leb c 102) (c - 48) (c - 87) small
+
+pub worth-great : (c : ℕ) → 16 ≤ digit_worth c → is_hex c ≡ false
+worth-great c great = false_from_ne_true (is_hex c) (λ is. let small = (is_hex-at c is).1 in omega arith)
+
+spelled_byte : (high low : ℕ) → digit_worth high < 16 → digit_worth low < 16 → encode_lower ((digit_worth high % 16 * 16 + digit_worth low % 16) ∷ []) ≡ high ∷ low ∷ []
+unfolding encode_with
+spelled_byte high low small_high small_low =
+    let byte = digit_worth high % 16 * 16 + digit_worth low % 16 in
+    let first : get_or lower_digits (byte / 16) 0 ≡ high = ap (λ n. get_or lower_digits n 0) (omega arith) ∙ digit-back high (worth-small high small_high) in
+    let second : get_or lower_digits (byte % 16) 0 ≡ low = ap (λ n. get_or lower_digits n 0) (omega arith) ∙ digit-back low (worth-small low small_low) in
+    ap (λ x. x ∷ get_or lower_digits (byte % 16) 0 ∷ []) first ∙ ap (λ x. high ∷ x ∷ []) second
+
+-- One more byte of two digits.
+pub decoded-more : (digits bytes : List ℕ) (i high low : ℕ) → length digits ≡ 2 * length bytes → i < length bytes
+    → high ≡ digit_worth (get_or digits (2 * i) 0) → low ≡ digit_worth (get_or digits (2 * i + 1) 0)
+    → high < 16 → low < 16
+    → encode_lower (take i bytes) ++ drop (2 * i) digits ≡ digits
+    → encode_lower (take (i + 1) (set bytes i (high % 16 * 16 + low % 16))) ++ drop (2 * (i + 1)) digits ≡ digits
+decoded-more digits bytes i high low sized below high_is low_is small_high small_low so_far =
+    let first = get_or digits (2 * i) 0 in
+    let second = get_or digits (2 * i + 1) 0 in
+    let byte = high % 16 * 16 + low % 16 in
+    let more = drop (2 * (i + 1)) digits in
+    let front : take (i + 1) (set bytes i byte) ≡ take i bytes ++ byte ∷ [] = rw add-one (take-suc-set bytes i byte below) in
+    let two : drop (2 * i) digits ≡ first ∷ second ∷ more = drop-two digits (2 * i) (2 * (i + 1)) (omega arith) (omega arith) in
+    let byte_is : byte ∷ [] ≡ (digit_worth first % 16 * 16 + digit_worth second % 16) ∷ [] = ap (λ x. (x % 16 * 16 + low % 16) ∷ []) high_is ∙ ap (λ x. (digit_worth first % 16 * 16 + x % 16) ∷ []) low_is in
+    let spelled : encode_lower (byte ∷ []) ≡ first ∷ second ∷ [] = ap encode_lower byte_is ∙ spelled_byte first second (omega (arith, high_is)) (omega (arith, low_is)) in
+    ap (λ xs. encode_lower xs ++ more) front
+    ∙ (ap (λ xs. xs ++ more) (encode_with-append lower_digits (take i bytes) (byte ∷ []))
+    ∙ (ap (λ xs. (encode_lower (take i bytes) ++ xs) ++ more) spelled
+    ∙ (append_assoc (encode_lower (take i bytes)) (first ∷ second ∷ []) more
+    ∙ (ap (λ xs. encode_lower (take i bytes) ++ xs) (sym two) ∙ so_far))))
+
+pub bytes_set : (bytes : List ℕ) (i v : ℕ) → i < length bytes → v < 256 → AreBytes bytes → AreBytes (set bytes i v)
+bytes_set bytes i v within small are k =
+    elim (cases_eq k i) [
+      | inl same ↦ let e = get_or-set_at bytes i k v 0 same within in omega (arith, e)
+      | inr other ↦ let e = get_or-set_other bytes i k v 0 other in omega (arith, are k, e)
+    ]
+
+-- A byte that is no digit stays one.
+pub other-more : (digits : List ℕ) (i greatest high low : ℕ) → 2 * i + 1 < length digits
+    → high ≡ digit_worth (get_or digits (2 * i) 0) → low ≡ digit_worth (get_or digits (2 * i + 1) 0)
+    → (16 ≤ greatest → list_all is_hex digits ≡ false)
+    → 16 ≤ max greatest (max high low)
+    → list_all is_hex digits ≡ false
+other-more digits i greatest high low below high_is low_is before great =
+    elim (cases_lt greatest 16) [
+      | inl small ↦ elim (cases_lt high 16) [
+        | inl small_high ↦ list_all_at is_hex digits (2 * i + 1) 0 below (worth-great (get_or digits (2 * i + 1) 0) (omega (arith, low_is)))
+        | inr great_high ↦ list_all_at is_hex digits (2 * i) 0 (omega arith) (worth-great (get_or digits (2 * i) 0) (omega (arith, high_is)))
+      ]
+      | inr more ↦ before more
+    ]
+
+pub not_spelled : (digits bytes : List ℕ) → list_all is_hex digits ≡ false → AreBytes bytes → digits ≡ encode_lower bytes → ⊥
+not_spelled digits bytes other are same = both_ways (list_all is_hex digits) other (ap (list_all is_hex) same ∙ encode_lower-hex bytes are)
+
+pub odd_digits : (digits bytes : List ℕ) → length digits % 2 ≢ 0 → digits ≡ encode_lower bytes → ⊥
+odd_digits digits bytes odd same =
+    let sized : length digits ≡ 2 * length bytes = ap length same ∙ length-encode_with lower_digits bytes in
+    odd (omega arith)
+
+pub none_from : (o : Option (List ℕ)) → ((x : List ℕ) → o ≡ Some x → ⊥) → o ≡ None
+none_from None none = refl
+none_from (Some x) none = absurd (none x refl)
+
+pub too_many_digits : (limit : ℕ) (digits : List ℕ) → limit < length digits / 2 → hex_of limit digits ≡ None
+too_many_digits limit digits many =
+    none_from (hex_of limit digits) (λ x some.
+    let is = (hex-are limit digits x).0 some in
+    let sized : length digits ≡ 2 * length x = ap length is.0 ∙ length-encode_with lower_digits x in
+    omega (arith, is.1))
+
+-- Reading without a limit, few enough digits.
+pub reads_decoded : (limit : ℕ) (digits : List ℕ) (r : Result (List ℕ) ValueError) → length digits / 2 ≤ limit
+    → Decodes digits r
+    → Reads r (hex_of limit digits)
+reads_decoded limit digits (Ok bytes) few is =
+    let sized : length digits ≡ 2 * length bytes = ap length is.0 ∙ length-encode_with lower_digits bytes in
+    (hex-are limit digits bytes).1 (is.0, omega arith, is.1)
+reads_decoded limit digits (Err Bad) few none =
+    none_from (hex_of limit digits) (λ x some. let is = (hex-are limit digits x).0 some in none x is.2 is.0)
+reads_decoded limit digits (Err OutOfMemory) few is = tt
 
 -- Plain bytes between quotation marks.
 prefixed : (b : ℕ) (o : Option (List ℕ)) (value : List ℕ) → option_map (λ v. b ∷ v) o ≡ Some value → (rest : List ℕ) × (o ≡ Some rest) × (value ≡ b ∷ rest)

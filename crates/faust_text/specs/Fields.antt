@@ -1,5 +1,5 @@
 -- The fields of a line: what a token means in a field, or why it is refused there.
-use Rattle.std.specs.Prelude.{◌≡◌, ℕ, ◌==◌, ◌&&◌, ◌||◌, nat_le, Bool, cond, List, [], ◌∷◌, slice_index, codes, Option, Some, None, Result, Ok, Err}
+use Rattle.std.specs.Prelude.{◌≡◌, ℕ, ◌==◌, ◌&&◌, ◌||◌, nat_le, Bool, cond, List, [], ◌∷◌, slice_index, codes, suc, Option, Some, None, option_map, Result, Ok, Err}
 use Rattle.std.specs.Str.{bytes_eq}
 use Rattle.faust_types.specs.declared.operation.Kind.{Kind}
 use Rattle.faust_types.specs.declared.operation.Kind.TheVariants as kinds
@@ -10,10 +10,11 @@ use Rattle.faust_text.specs.declared.error.LineError.TheVariants as errors
 use Rattle.faust_text.specs.Numbers.{is_number, worth}
 use Rattle.faust_text.specs.Values.{bytes_of, hex_of, value_of}
 
--- The kinds of field. A word is one fixed text; a number has its least and its greatest value, so that one of n
+-- The kinds of field. A word is one fixed text, or one of some; a number has its least and its greatest value, so that one of n
 -- clients is a number from 1 to n.
 pub data Field : Type 0 where
   word : List ℕ → Field
+  one_of : List (List ℕ) → Field
   number : ℕ → ℕ → Field
   any_number : Field
   kind : Field
@@ -21,9 +22,10 @@ pub data Field : Type 0 where
   bytes : Field
   key : Field
 
--- What a field gives: any number is its digits, however many.
+-- What a field gives: one of some words is its place among them, any number is its digits, however many.
 abbrev pub Given : Field → Type 0
 Given (word text) = Unit {0}
+Given (one_of words) = ℕ
 Given (number low high) = ℕ
 Given any_number = List ℕ
 Given kind = Kind
@@ -42,6 +44,11 @@ abbrev pub or_cause : {A : Type 0} → Option A → Cause → Result A Cause
 or_cause None cause = Err cause
 or_cause (Some x) cause = Ok x
 
+-- The place of a token among words, counted from 0.
+abbrev pub place_of : List (List ℕ) → List ℕ → Option ℕ
+place_of [] token = None
+place_of (text ∷ texts) token = cond (bytes_eq token text) (Some 0) (option_map (λ place. suc place) (place_of texts token))
+
 -- A token that is a number, in a range.
 abbrev pub number_in : ℕ → ℕ → List ℕ → Result ℕ Cause
 number_in low high token = cond (is_number token) (cond (nat_le low (worth token) && nat_le (worth token) high) (Ok (worth token)) (Err causes.Number)) (Err causes.Word)
@@ -59,6 +66,7 @@ some_key (Some (b ∷ bs)) = Ok (b ∷ bs)
 -- What a token means in a field, or the cause with which it is refused there.
 unfoldable pub field_at : (field : Field) → List ℕ → Result (Given field) Cause
 field_at (word text) token = cond (bytes_eq token text) (Ok tt) (Err causes.Word)
+field_at (one_of words) token = or_cause (place_of words token) causes.Word
 field_at (number low high) token = number_in low high token
 field_at any_number token = cond (is_number token) (Ok token) (Err causes.Word)
 field_at kind token = cond (bytes_eq token (codes "write")) (Ok kinds.Write) (cond (bytes_eq token (codes "read")) (Ok kinds.Read) (Err causes.Word))

@@ -1,8 +1,9 @@
 -- Values and bytes as tokens.
-use Rattle.std.specs.Prelude.{◌≡◌, ℕ, ◌*◌, ◌==◌, ◌&&◌, ◌||◌, nat_le, not, Bool, true, cond, List, [], ◌∷◌, ◌++◌, length, codes, Option, Some, None, option_map, Result, Ok, Err, ◌⊎◌}
+use Rattle.std.specs.Prelude.{◌≡◌, ◌≢◌, ℕ, ◌-◌, ◌*◌, ◌==◌, ◌&&◌, ◌||◌, nat_le, not, Bool, true, cond, List, [], ◌∷◌, ◌++◌, length, codes, Option, Some, None, option_map, Result, Ok, Err, ◌⊎◌}
 use Rattle.std.specs.List.{list_all}
 use Rattle.std.specs.Result.{result_ok}
 use Rattle.hex.specs.Hex.{decode_of, encode_lower}
+use Rattle.faust_types.specs.Bytes.{AreBytes}
 use Rattle.faust_text.specs.declared.error.ValueError.{ValueError}
 use Rattle.faust_text.specs.declared.error.ValueError.TheVariants.{Bad, OutOfMemory}
 
@@ -17,6 +18,16 @@ is_hex b = (nat_le 48 b && nat_le b 57) || (nat_le 97 b && nat_le b 102)
 -- The bytes that digits spell, two digits a byte, where they are no more than the limit.
 unfoldable pub hex_of : ℕ → List ℕ → Option (List ℕ)
 hex_of limit digits = cond (list_all is_hex digits && nat_le (length digits) (2 * limit)) (result_ok (decode_of digits)) None
+
+-- What a digit is worth, and 16 for a byte that is none.
+abbrev pub digit_worth : ℕ → ℕ
+digit_worth b = cond (nat_le 48 b && nat_le b 57) (b - 48) (cond (nat_le 97 b && nat_le b 102) (b - 87) 16)
+
+-- What reading digits without a limit answers: the bytes whose digits they are, or `Bad` where there are none.
+abbrev pub Decodes : List ℕ → Result (List ℕ) ValueError → Type 0
+Decodes digits (Ok bytes) = (digits ≡ encode_lower bytes) × AreBytes bytes
+Decodes digits (Err Bad) = (bytes : List ℕ) → AreBytes bytes → digits ≢ encode_lower bytes
+Decodes digits (Err OutOfMemory) = Unit {0}
 
 -- The same behind `0x`.
 abbrev pub bytes_of : ℕ → List ℕ → Option (List ℕ)

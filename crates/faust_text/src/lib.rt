@@ -15,6 +15,7 @@ mod cursor;
 mod error;
 mod field;
 mod head;
+mod head_text;
 mod laws;
 mod line;
 mod numeral;
@@ -25,10 +26,12 @@ mod token;
 pub use cause::Cause;
 pub use cursor::Cursor;
 pub use error::{LineError, ValueError};
-pub use head::{Head, HeadStep};
+pub use head::{Formats, Head, HeadForm, HeadStep, Title};
+pub use head_text::put_head;
 pub use laws::{
-    fields_are_their_spellings, joined_tokens_are_read, lines_are_the_input,
-    numbers_are_their_digits, values_are_their_spellings,
+    fields_are_in_range, fields_are_their_spellings, heads_are_their_lines, joined_tokens_are_read,
+    lines_are_the_input, numbers_are_their_digits, printed_heads_are_read,
+    values_are_their_spellings,
 };
 pub use line::{Line, Lines, MAX_LINE_LEN, Span, line_at, lines, whole_line};
 pub use numeral::{is_number, number};

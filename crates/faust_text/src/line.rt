@@ -1,4 +1,5 @@
-ghost use Rattle.std.specs.Prelude.{◌≡◌, ◌≤◌, length, IfOk, MatchResult};
+ghost use Rattle.std.specs.Prelude.{◌≡◌, ◌+◌, ◌≤◌, ◌==◌, drop, length, IfOk, MatchResult};
+ghost use Rattle.std.specs.List.{list_any};
 ghost use Rattle.faust_text.specs.Lines.{line_places, line_in, IsLineAt, whole_line};
 ghost use Rattle.faust_text.specs.Tokens.{len_before};
 
@@ -73,8 +74,45 @@ pub fn whole_line(input: &[u8], line: Line) -> Result<&[u8], Cause>
     }
 }
 
+/// How many bytes are looked at together.
+const BLOCK: usize = 32;
+
 /// How many bytes stand before the first of a kind: all where there is none.
 pub(crate) fn len_before(bytes: &[u8], kind: u8) -> usize
+    ensures count { result ≡ len_before kind bytes.now }
+    ensures within { result ≤ length bytes.now }
+{
+    let skipped = blocks_before(bytes, kind);
+    skipped + len_before_bytewise(bytes.split_at(skipped).1, kind)
+}
+
+/// How many bytes the first whole blocks have that lack the kind.
+fn blocks_before(bytes: &[u8], kind: u8) -> usize
+    ensures skipped { result + len_before kind (drop result bytes.now) ≡ len_before kind bytes.now }
+    ensures within { result ≤ length bytes.now }
+{
+    let mut at = 0;
+    while bytes.len() - at >= BLOCK {
+        if has(&bytes[at..at + BLOCK], kind) {
+            return at;
+        }
+        at += BLOCK;
+    }
+    at
+}
+
+/// Whether a byte of the kind stands there. It looks at each byte, so that the processor takes many at once.
+fn has(bytes: &[u8], kind: u8) -> bool
+    ensures { result ≡ list_any (λ b. b == kind) bytes.now }
+{
+    let mut found = false;
+    for byte in bytes {
+        found |= *byte == kind;
+    }
+    found
+}
+
+fn len_before_bytewise(bytes: &[u8], kind: u8) -> usize
     ensures count { result ≡ len_before kind bytes.now }
     ensures within { result ≤ length bytes.now }
 {

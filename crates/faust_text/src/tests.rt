@@ -1,8 +1,9 @@
 use crate::{
-    Cause, Cursor, Head, HeadStep, Line, LineError, Span, ValueError, bytes, hex_bytes, line_at,
-    lines, number, put_hex, put_number, put_value, split_token, tokens, value,
+    Cause, Cursor, Head, HeadForm, HeadStep, Line, LineError, Span, Title, ValueError, bytes,
+    hex_bytes, line_at, lines, number, put_head, put_hex, put_number, put_value, split_token,
+    tokens, value,
 };
-use faust_types::{Kind, OutOfMemory, Sequence};
+use faust_types::{Config, Kind, OutOfMemory, Sequence};
 use std::test::Fail;
 
 fn span(start: usize, end: usize) -> Span {
@@ -31,6 +32,9 @@ fn lines_have_their_places(rt: HostRuntime) -> Result<(), Fail> {
     assert_eq!(rt; line_at(b"\nab", 1), Some(last));
     assert_eq!(rt; line_at(b"\nab", 3), None);
     assert_eq!(rt; line_at(b"\nab", 9), None);
+    let long = b"0123456789012345678901234567890123456789\n0123456789012345678901234567890\n";
+    let found = lines(rt.alloc(), long)?;
+    assert_eq!(rt; found.as_slice(), [ended(0, 40), ended(41, 72)].as_slice());
     Ok(())
 }
 
@@ -211,24 +215,109 @@ fn fields_are_read(rt: HostRuntime) -> Result<(), Fail> {
     Ok(())
 }
 
-#[test]
-fn heads_are_read(rt: HostRuntime) -> Result<(), Fail> {
-    let lines: [&[u8]; 3] = [b"clients 32", b"key 0a0b", b"delta 1099511627775"];
-    let mut head = Head::Clients;
+fn form(title: Title, formats: u8, clients: u8) -> HeadForm {
+    HeadForm {
+        title,
+        formats,
+        clients,
+    }
+}
+
+fn read_head(
+    rt: &HostRuntime,
+    form: HeadForm,
+    lines: &[&[u8]],
+) -> Result<Option<(u8, Config)>, LineError> {
+    let mut head = Head::Title;
     for line in lines.iter() {
-        head = match head.read(rt.alloc(), line)? {
+        head = match head.read(rt.alloc(), form, line)? {
             HeadStep::Next(head) => head,
-            HeadStep::Whole(_) => return Err(Fail::from("whole too early")),
+            HeadStep::Whole { format, config } => return Ok(Some((format, config))),
         };
     }
-    match head.read(rt.alloc(), b"dummy 1")? {
-        HeadStep::Next(_) => Err(Fail::from("the head isn't whole")),
-        HeadStep::Whole(config) => {
-            assert_eq!(rt; config.clients, 32);
-            assert_eq!(rt; config.key.as_slice(), b"\x0a\x0b".as_slice());
-            assert_eq!(rt; config.delta, 1_099_511_627_775);
-            assert_eq!(rt; config.dummy, 1);
-            Ok(())
-        }
+    Ok(None)
+}
+
+#[test]
+fn heads_are_read(rt: HostRuntime) -> Result<(), Fail> {
+    let script: [&[u8]; 5] = [
+        b"faust 1",
+        b"clients 32",
+        b"key 0a0b",
+        b"delta 1099511627775",
+        b"dummy 1",
+    ];
+    let (format, config) = read_head(&rt, form(Title::Script, 1, 32), &script)?.ok_or("not whole")?;
+    assert_eq!(rt; format, 1);
+    assert_eq!(rt; config.clients, 32);
+    assert_eq!(rt; config.key.as_slice(), b"\x0a\x0b".as_slice());
+    assert_eq!(rt; config.delta, 1_099_511_627_775);
+    assert_eq!(rt; config.dummy, 1);
+    assert_eq!(rt; config.wire, 1);
+    assert!(rt; read_head(&rt, form(Title::Script, 1, 32), &script[..4])?.is_none());
+    let record: [&[u8]; 6] = [
+        b"faust-record 2",
+        b"wire 2",
+        b"clients 2",
+        b"key 00",
+        b"delta 1000",
+        b"dummy 1000000",
+    ];
+    let (format, config) = read_head(&rt, form(Title::Record, 2, 32), &record)?.ok_or("not whole")?;
+    assert_eq!(rt; format, 2);
+    assert_eq!(rt; config.wire, 2);
+    let mut out = Sequence::from_slice(rt.alloc(), b"=")?;
+    put_head(&mut out, Title::Record, 2, &config)?;
+    assert_eq!(rt;
+        out.as_slice(),
+        b"=faust-record 2\nwire 2\nclients 2\nkey 00\ndelta 1000\ndummy 1000000\n".as_slice()
+    );
+    let mut out = Sequence::new(rt.alloc());
+    put_head(&mut out, Title::Script, 1, &config)?;
+    assert_eq!(rt;
+        out.as_slice(),
+        b"faust 1\nclients 2\nkey 00\ndelta 1000\ndummy 1000000\n".as_slice()
+    );
+    Ok(())
+}
+
+#[test]
+fn lines_of_heads_are_refused(rt: HostRuntime) {
+    let refused: [(HeadForm, &[&[u8]], Cause); 8] = [
+        (form(Title::Script, 1, 32), &[b"faust 2"], Cause::Word),
+        (form(Title::Script, 2, 32), &[b"faust 3"], Cause::Word),
+        (
+            form(Title::Script, 2, 32),
+            &[b"faust-record 1"],
+            Cause::Word,
+        ),
+        (form(Title::Record, 2, 32), &[b"faust-record"], Cause::Word),
+        (
+            form(Title::Script, 2, 32),
+            &[b"faust 1", b"wire 1"],
+            Cause::Word,
+        ),
+        (
+            form(Title::Script, 2, 32),
+            &[b"faust 2", b"clients 2"],
+            Cause::Word,
+        ),
+        (
+            form(Title::Script, 2, 32),
+            &[b"faust 2", b"wire 3"],
+            Cause::Number,
+        ),
+        (
+            form(Title::Script, 1, 8),
+            &[b"faust 1", b"clients 9 x"],
+            Cause::Number,
+        ),
+    ];
+    for (form, lines, cause) in refused.iter() {
+        assert_eq!(rt;
+            read_head(&rt, *form, lines).err(),
+            Some(LineError::Refused(*cause)),
+            "{lines:?}"
+        );
     }
 }

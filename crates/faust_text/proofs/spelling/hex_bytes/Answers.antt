@@ -1,8 +1,8 @@
-use Rattle.std.proofs.Common.{Some, sym, ap, ◌∙◌, arith}
-use Rattle.faust_text.proofs.ValueLaws.{hex_of-found}
+use Rattle.faust_text.proofs.ValueLaws.{reads_decoded, too_many_digits}
 use Rattle.faust_text.proofs.spelling.hex_bytes.Goals as goal
 
-pub returns-in-Ok : goal.returns-in-Ok
-returns-in-Ok c =
-    hex_of-found c.args.limit c.args.token.now c.in-Ok.bytes.items (sym c.is_all_hex.ensures ∙ c.if-not-is_all_hex.false) (omega arith) c.in-Ok.ensures.ok
-    ∙ ap Some (sym c.from_vec.ensures)
+pub returns-then-token-limit : goal.returns-then-token-limit
+returns-then-token-limit c = too_many_digits c.args.limit c.args.token.now c.if-token-limit.true
+
+pub returns : goal.returns
+returns c = reads_decoded c.args.limit c.args.token.now c.decoded.result c.if-token-limit.false c.decoded.ensures
