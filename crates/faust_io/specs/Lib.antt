@@ -1,5 +1,8 @@
 pub mod Faults
 pub mod Reading
 pub mod Writing
+pub mod Moments
+pub mod Jobs
+pub mod Started
 pub mod Calls
 pub mod Memory

@@ -14,7 +14,7 @@ pub struct Calls {
 }
 
 impl Calls {
-    ghost use Rattle.faust_io.specs.Calls.{no_calls, IsNextFailing, after_success, after_failure};
+    ghost use Rattle.faust_io.specs.Calls.{no_calls, IsNextFailing, after_success, after_failure, Admits, after_admitted};
 
     pub fn new(alloc: Global, failing: &[u64]) -> Result<Calls, OutOfMemory>
         ensures { IfOk result (λ calls. calls ≡ no_calls failing.now) }
@@ -50,5 +50,23 @@ impl Calls {
         self.made = self.made.saturating_add(1);
         self.faults = self.faults.saturating_add(1);
         Failed
+    }
+
+    /// How many of the next `wanted` calls succeed before one fails: all where none does. It counts those, and
+    /// the one that fails, but no fault.
+    pub fn admit(&mut self, wanted: usize) -> usize
+        ensures within { result ≤ wanted }
+        ensures admits { Admits self.old wanted result }
+        ensures after { self.new ≡ after_admitted self.old wanted result }
+    {
+        let _made = self.made;
+        for passed in 0..wanted {
+            let fails = self.is_next_failing();
+            self.succeed();
+            if fails {
+                return passed;
+            }
+        }
+        wanted
     }
 }

@@ -40,6 +40,26 @@ impl fmt::Display for ReadError {
 
 impl Error for ReadError {}
 
+/// Why jobs weren't run to their end.
+#[derive(Clone, Copy, Debug, PartialEq, Eq)]
+pub enum StartError {
+    /// A start was refused; the spawner's count of faults rose.
+    Failed,
+    /// The allocator had no memory left. No job was started.
+    OutOfMemory,
+}
+
+impl fmt::Display for StartError {
+    fn fmt<W: fmt::Write>(&self, f: &mut fmt::Formatter<W>) -> fmt::Result {
+        f.write_str(match self {
+            StartError::Failed => "a start was refused",
+            StartError::OutOfMemory => "out of memory",
+        })
+    }
+}
+
+impl Error for StartError {}
+
 impl From<Failed> for ReadError {
     ghost from_gives = { λ _ error. error ≡ errors.Failed };
 

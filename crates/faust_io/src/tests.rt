@@ -1,3 +1,6 @@
+mod clocks;
+mod spawners;
+
 use crate::{
     Failed, MemSink, MemSource, ReadError, Sink, Source, StdSink, StdSource, SureSink, SureSource,
     read_whole, write_whole,
