@@ -1,0 +1,14 @@
+use Rattle.std.proofs.Common.{arith, ◌∙◌, length-drop}
+use Rattle.faust_io.proofs.Pieces.{Consumes-more}
+use Rattle.faust_link.proofs.finding.read_full.Goals as goal
+
+pub loop-filled-preserved : goal.loop-filled-preserved
+loop-filled-preserved g c =
+    let read = c.in_ok-given.ensures in
+    let before = c.loop-filled.invariant in
+    record {
+      within = omega (arith, read.bytes.fits, length-drop c.loop-filled.filled c.read_behind.new.buffer, c.read_behind.auto.buffer);
+      kept = read.count ∙ before.kept;
+      front = Consumes-more _ _ _ c.loop-filled.buffer c.read_behind.new.buffer c.loop-filled.filled c.in_ok-given.given
+          before.front read.front read.bytes.next;
+    }

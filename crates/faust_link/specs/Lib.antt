@@ -1,0 +1,5 @@
+pub mod Frames
+pub mod Counts
+pub mod Links
+pub mod Views
+pub mod Finding
