@@ -1,0 +1,4 @@
+pub mod Once
+pub mod Totals
+pub mod Keeps
+pub mod Allowed

@@ -1,0 +1,5 @@
+pub mod Numbers
+pub mod Holders
+pub mod Rule
+pub mod Steps
+pub mod Tokens
