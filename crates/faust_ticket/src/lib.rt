@@ -13,6 +13,8 @@ mod counter;
 mod root;
 mod seat;
 mod table;
+#[cfg(test)]
+mod tests;
 
 pub use blank::{Blank, start};
 pub use counter::Counter;
