@@ -1,11 +1,9 @@
 -- What the table's four calls ask, for the root and for a seat.
-use Rattle.std.proofs.Common.{◌≡◌, ℕ, ◌+◌, ◌-◌, ◌%◌, ◌^◌, ◌<◌, ◌≤◌, List, [], ◌∷◌, ◌++◌, set, get_or, refl, sym, ap, ◌∙◌, subst, arith}
-use mathlib.Core.Option.{some}
-use lib.ListN.{get_elem?}
+use Rattle.std.proofs.Common.{◌≡◌, ℕ, ◌+◌, ◌%◌, ◌^◌, ◌<◌, ◌≤◌, [], ◌∷◌, set, get_or, refl, sym, ap, ◌∙◌, subst, arith}
 use Rattle.atomic_table.specs.Table.{State, Me, keeps, Allows, Splits, Joins}
 use Rattle.atomic_table.proofs.Lists.{set_again}
 use Rattle.faust_ticket.specs.Holders.{SeatView, RootView, after_draw}
-use Rattle.faust_ticket.specs.Rule.{Holder, root, seat, spent, total, spare_of, IsCounted, IsCounter}
+use Rattle.faust_ticket.specs.Rule.{Holder, root, seat, spent, IsCounted, IsCounter}
 use Rattle.faust_ticket.specs.Steps.{drew, finished, root_left, seat_given, root_joined}
 use Rattle.faust_ticket.proofs.Keeps.{draws, draw_rises, draw_is_below, splits, joins, finishes}
 
@@ -17,7 +15,9 @@ Mine = Me (Unit {0}) Holder
 
 -- the word is the next number of what is counted
 counted : (s : Table) → IsCounter s → IsCounted (get_or s.words 0 0) s.views
-counted s c = let is : get_or s.words 0 0 ≡ c.next = ap (λ l. get_or l 0 0) c.one_word in subst (λ n. IsCounted n s.views) (sym is) c.counted
+counted s c =
+    let is : get_or s.words 0 0 ≡ c.next = ap (λ l. get_or l 0 0) c.one_word in
+    subst (λ n. IsCounted n s.views) (sym is) c.counted
 
 wraps : (x : ℕ) → x < 2 ^ 40 → (x + 1) % 2 ^ 64 ≡ x + 1
 wraps x h = omega arith

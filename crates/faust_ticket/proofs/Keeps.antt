@@ -1,8 +1,8 @@
 -- Each of the four steps keeps what holds of the next number and the holders.
-use Rattle.std.proofs.Common.{◌≡◌, ℕ, ◌+◌, ◌-◌, ◌^◌, ◌<◌, ◌≤◌, List, [], ◌∷◌, ◌++◌, set, refl, sym, ap, arith, All, ◌∙◌, cond, eqb}
+use Rattle.std.proofs.Common.{◌≡◌, ℕ, ◌+◌, ◌^◌, ◌<◌, ◌≤◌, List, [], ◌∷◌, ◌++◌, set, refl, sym, arith, All, ◌∙◌}
 use mathlib.Core.Option.{some}
 use lib.ListN.{get_elem?}
-use Rattle.faust_ticket.specs.Numbers.{times, once_below, HoldsEachBelow}
+use Rattle.faust_ticket.specs.Numbers.{times, HoldsEachBelow}
 use Rattle.faust_ticket.specs.Holders.{SeatView, RootView, first_root, first_seat, after_draw, after_split, after_join}
 use Rattle.faust_ticket.specs.Rule.{Holder, root, seat, spent, drawn_by, spare_of, out_of, is_root, is_seat, total, IsCounted}
 use Rattle.faust_ticket.proofs.Once.{once_below-no, once_below-add, times-append, times-push, all_below}

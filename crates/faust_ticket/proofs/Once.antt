@@ -1,5 +1,6 @@
 -- How often numbers stand in lists.
-use Rattle.std.proofs.Common.{◌≡◌, ℕ, zero, suc, ◌+◌, ◌<◌, ◌≤◌, ◌≢◌, cond, eqb, ltb, List, [], ◌∷◌, ◌++◌, length, get_or, All, sym, refl, ap, ◌∙◌, arith, eq-eqb, ne_eqb}
+use Rattle.std.proofs.Common.{◌≡◌, ℕ, zero, suc, ◌+◌, ◌<◌, ◌≤◌, ◌≢◌, cond, eqb, List, [], ◌∷◌, ◌++◌, length, get_or}
+use Rattle.std.proofs.Common.{All, AllPairs, Contains, sym, refl, ap, ◌∙◌, arith, eq-eqb, ne_eqb}
 use Rattle.std.proofs.lemmas.Bool.{lt-ltb, le-ltb}
 use mathlib.Core.Logic.{dite}
 use native.Mathlib.Decide.{dec_le, ℕ_discrete}
@@ -17,6 +18,11 @@ once_below-no m x h = ap (λ b. cond b 1 0) (le-ltb x m h)
 
 pub is_below : (m x : ℕ) → 1 ≤ once_below m x → x < m
 is_below m x one = dite (dec_le m x) (λ no. let z = once_below-no m x no in absurd (omega arith)) (λ yes. omega arith)
+
+once_below-least : (m x : ℕ) → once_below m x ≤ 1
+once_below-least m x = dite (dec_le m x)
+    (λ no. let z = once_below-no m x no in omega arith)
+    (λ yes. let z = once_below-yes m x (omega arith) in omega arith)
 
 same : (x y : ℕ) → x ≡ y → hit x y ≡ 1
 same x y e = ap (λ b. cond b 1 0) (eq-eqb x y e)
@@ -90,3 +96,38 @@ count_is m xs h =
     let a = smaller-each m xs h m (omega arith) in
     let b = smaller-all m xs (λ x one. let e = h x in is_below m x (omega arith)) in
     omega arith
+
+-- a list that holds each number below m once, in other words: each is found, none stands at two places
+found_at : (x : ℕ) (xs : List ℕ) → 1 ≤ times x xs → Contains xs x
+found_at x [] h = absurd (omega arith)
+found_at x (y ∷ ys) h = dite (ℕ_discrete y x)
+    (λ e. (0, omega arith, e))
+    (λ ne.
+    let a = other x y (λ e. ne (sym e)) in
+    let r = found_at x ys (omega arith) in
+    let within = r.1 in
+    (suc r.0, omega arith, r.2))
+
+pub is_found : (m x : ℕ) (numbers : List ℕ) → HoldsEachBelow m numbers → x < m → Contains numbers x
+is_found m x numbers h lt = let a = h x in let b = once_below-yes m x lt in found_at x numbers (omega arith)
+
+twice : (xs : List ℕ) (i j d : ℕ) → i < j → j < length xs → get_or xs i d ≡ get_or xs j d → 2 ≤ times (get_or xs i d) xs
+twice [] i j d lt within e = absurd (omega arith)
+twice (x ∷ xs) i zero d lt within e = absurd (omega arith)
+twice (x ∷ xs) zero (suc j) d lt within e =
+    let a = same x x refl in
+    let b = stands xs j d (omega arith) in
+    let c : times (get_or xs j d) xs ≡ times x xs = ap (λ y. times y xs) (sym e) in
+    omega arith
+twice (x ∷ xs) (suc i) (suc j) d lt within e = let r = twice xs i j d (omega arith) (omega arith) e in omega arith
+
+pub are_apart : (m : ℕ) (numbers : List ℕ) → HoldsEachBelow m numbers → AllPairs (λ x y. x ≢ y) numbers
+are_apart m numbers h i j d lt within e =
+    let x : ℕ = get_or numbers i d in
+    let a = twice numbers i j d lt within e in
+    let b = h x in
+    let c = once_below-least m x in
+    absurd (omega arith)
+
+pub are_below : (m : ℕ) (numbers : List ℕ) → HoldsEachBelow m numbers → All (λ x. x < m) numbers
+are_below m numbers h = all_below m numbers (λ x. let a = h x in omega arith)

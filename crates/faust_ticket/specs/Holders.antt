@@ -28,6 +28,6 @@ after_draw s x = record { drawn = s.drawn ++ x ∷ []; spare = s.spare - 1 }
 abbrev pub after_split : RootView → RootView
 after_split r = record { drawn = r.drawn; spare = r.spare - 2 ^ 32; out = r.out + 1 }
 
--- the root after it took a seat back
+-- the root after it took a seat back; that seat was out, so the root counted at least one
 abbrev pub after_join : RootView → SeatView → RootView
 after_join r s = record { drawn = r.drawn ++ s.drawn; spare = r.spare + s.spare; out = r.out - 1 }

@@ -6,11 +6,13 @@ use Rattle.atomic_table.specs.Table.{State}
 use Rattle.faust_ticket.specs.Numbers.{times, once_below}
 use Rattle.faust_ticket.specs.Holders.{RootView, SeatView}
 
+-- who may hold numbers
 pub data Holder : Type 0 where
   root : RootView → Holder
   seat : SeatView → Holder
   spent : Holder
 
+-- the numbers of a holder, how many more it may draw or give away, and how many seats it counts
 abbrev pub drawn_by : Holder → List ℕ
 drawn_by (root r) = r.drawn
 drawn_by (seat s) = s.drawn
@@ -26,6 +28,7 @@ out_of (root r) = r.out
 out_of (seat _) = 0
 out_of spent = 0
 
+-- 1 for the root, and 1 for a seat that is out
 abbrev pub is_root : Holder → ℕ
 is_root (root _) = 1
 is_root (seat _) = 0
@@ -41,11 +44,13 @@ abbrev pub total : (Holder → ℕ) → List Holder → ℕ
 total f [] = 0
 total f (h ∷ hs) = f h + total f hs
 
--- the next number is w, and these are the holders
+-- what holds where the next number is w and these are the holders
 pub record IsCounted (w : ℕ) (holders : List Holder) : Type 0 where
-  -- over all lists together a number stands once if it is below w, and else not at all
+  -- over all lists together a number stands once if it is below w, and else not at all: none stands twice, and none is left out
   pub each_once : (x : ℕ) → total (λ h. times x (drawn_by h)) holders ≡ once_below w x
+  -- each spare number can still be drawn below 2^40
   pub room : w + total spare_of holders ≤ 2 ^ 40
+  -- there is one root, and it counts the seats
   pub one_root : total is_root holders ≡ 1
   pub seats_out : total is_seat holders ≡ total out_of holders
 

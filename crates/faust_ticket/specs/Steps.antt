@@ -8,10 +8,10 @@
 --   finish   a load                nothing; where no seat is out, the root's list holds each number below the word exactly once
 use Rattle.std.specs.Prelude.{◌≡◌, ℕ, ◌^◌, ◌<◌, All}
 use Rattle.faust_ticket.specs.Numbers.{HoldsEachBelow}
-use Rattle.faust_ticket.specs.Holders.{SeatView, RootView, first_seat, after_draw, after_split, after_join}
+use Rattle.faust_ticket.specs.Holders.{SeatView, first_seat, after_draw, after_split, after_join}
 use Rattle.faust_ticket.specs.Rule.{Holder, root, seat, spent}
 
--- what a draw that found x tells: it is above all that the seat drew, below 2^40, and the seat has it now
+-- what a draw that found x tells: x is above all that the seat drew and below 2^40, and the seat has it now
 pub record Drew (s : SeatView) (x : ℕ) (after : Holder) : Type 0 where
   pub rising : All (λ y. y < x) s.drawn
   pub below : x < 2 ^ 40

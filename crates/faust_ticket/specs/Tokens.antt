@@ -1,6 +1,6 @@
 -- How a root and a seat stand on the counter's table. It helps the proofs: each value of the two types keeps it.
 use Rattle.std.specs.Prelude.{◌≡◌, []}
-use Rattle.atomic_table.specs.Table.{Me}
+use Rattle.atomic_table.specs.declared.shared.Seat.{Seat}
 use Rattle.atomic_table.specs.Seated.{TableId}
 use Rattle.faust_ticket.specs.Holders.{RootView, SeatView, first_root, first_seat}
 use Rattle.faust_ticket.specs.Rule.{Holder, root, seat, spent}
@@ -20,9 +20,9 @@ seat_in (root _) = first_seat
 seat_in (seat s) = s
 seat_in spent = first_seat
 
--- table and token are of the counter, and the token's holder is h
-pub record IsOf (counter table token : TableId) (me : Me (Unit {0}) Holder) (h : Holder) : Type 0 where
+-- table and token are of the counter, which has one word, and the token's holder is h
+pub record IsOf (counter table : TableId) (token : Seat (Unit {0}) Holder) (h : Holder) : Type 0 where
   pub one_word : counter.words ≡ 1
   pub table_named : table ≡ counter
-  pub token_named : token ≡ counter
-  pub holder : me ≡ (h, [])
+  pub token_named : token.table_id ≡ counter
+  pub holder : token.me ≡ (h, [])

@@ -29,7 +29,7 @@ impl Model for Blank {
 
     ghost view = { λ b. b.token.table_id };
 
-    ghost invariant = { λ b. IsOf b.token.table_id (arc_value b.table).shared.table_id b.token.table_id b.token.me (root first_root) };
+    ghost invariant = { λ b. IsOf b.token.table_id (arc_value b.table).shared.table_id b.token (root first_root) };
 }
 
 /// A new counter.

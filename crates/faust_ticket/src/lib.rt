@@ -10,6 +10,7 @@
 
 mod blank;
 mod counter;
+mod laws;
 mod root;
 mod seat;
 mod table;
@@ -18,5 +19,6 @@ mod tests;
 
 pub use blank::{Blank, start};
 pub use counter::Counter;
+pub use laws::each_number_once;
 pub use root::Root;
 pub use seat::Seat;

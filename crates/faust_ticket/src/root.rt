@@ -32,12 +32,12 @@ impl<T: Counter> Model for Root<T> {
 
     ghost view = { λ r. root_in r.token.me.0 };
 
-    ghost invariant = { λ r. IsOf T.counter (arc_value r.table).shared.table_id r.token.table_id r.token.me (root (root_in r.token.me.0)) };
+    ghost invariant = { λ r. IsOf T.counter (arc_value r.table).shared.table_id r.token (root (root_in r.token.me.0)) };
 }
 
 impl<T: Counter> Root<T> {
     pub(crate) fn of(table: Arc<Tickets, Global>, token: Token) -> Root<T>
-        requires { IsOf T.counter (arc_value table).shared.table_id token.table_id token.me (root first_root) }
+        requires { IsOf T.counter (arc_value table).shared.table_id token (root first_root) }
         ensures { result ≡ first_root }
     {
         Root {

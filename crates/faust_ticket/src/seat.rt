@@ -29,12 +29,12 @@ impl<T: Counter> Model for Seat<T> {
 
     ghost view = { λ s. seat_in s.token.me.0 };
 
-    ghost invariant = { λ s. IsOf T.counter (arc_value s.table).shared.table_id s.token.table_id s.token.me (seat (seat_in s.token.me.0)) };
+    ghost invariant = { λ s. IsOf T.counter (arc_value s.table).shared.table_id s.token (seat (seat_in s.token.me.0)) };
 }
 
 impl<T: Counter> Seat<T> {
     pub(crate) fn of(table: Arc<Tickets, Global>, token: Token) -> Seat<T>
-        requires { IsOf T.counter (arc_value table).shared.table_id token.table_id token.me (seat first_seat) }
+        requires { IsOf T.counter (arc_value table).shared.table_id token (seat first_seat) }
         ensures { result ≡ first_seat }
     {
         Seat {
@@ -45,7 +45,7 @@ impl<T: Counter> Seat<T> {
     }
 
     pub(crate) fn into_parts(self) -> (Arc<Tickets, Global>, Token)
-        ensures { IsOf T.counter (arc_value result.0).shared.table_id result.1.table_id result.1.me (seat self) }
+        ensures { IsOf T.counter (arc_value result.0).shared.table_id result.1 (seat self) }
     {
         let Seat {
             table,
