@@ -15,7 +15,7 @@ pub type Tickets = Table<(), Known, (), Rule, Global>;
 /// The right to step on the table. It has no bytes.
 pub type Token = atomic_table::Seat<(), Known>;
 
-/// What a token knows: which holder it is. No value of it is made, and one that knows of no step would be spent.
+/// What a token knows: which holder it is. No value of it is made, so what one would show is of no matter.
 pub struct Known {
     marker: PhantomData<()>,
 }
