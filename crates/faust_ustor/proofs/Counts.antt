@@ -15,6 +15,7 @@ use Rattle.faust_ustor.specs.declared.walk.Walk.{Walk}
 use Rattle.faust_ustor.specs.Checks.{advanced, begun}
 use Rattle.faust_ustor.specs.Passed.{followed, clients_after, AreTuplesPassed, next_of, told_of}
 
+-- One more operation of client k.
 pub clients-advanced : (walk : Walk) (k : ℕ) → clients_of (advanced walk k).version ≡ clients_of walk.version
 clients-advanced walk k = length-set walk.version.timestamps (k - 1) (timestamp_at walk.version k + 1)
 
@@ -27,11 +28,12 @@ pub timestamp-advanced_other : (walk : Walk) (k j : ℕ) → 1 ≤ k → 1 ≤ j
 timestamp-advanced_other walk k j lk lj ne = timestamp-with_entry_other walk.version k (timestamp_at walk.version k + 1)
     (link walk.digest k) j lk lj ne
 
+-- A walk keeps the number of clients.
 pub clients-followed : (walk : Walk) (tuples : List Tuple) → clients_of (followed walk tuples).version ≡ clients_of walk.version
 clients-followed walk [] = refl
 clients-followed walk (tuple ∷ rest) = clients-followed (advanced walk tuple.client) rest ∙ clients-advanced walk tuple.client
 
--- each tuple counts one more operation of its client
+-- Each tuple counts one more operation of its client.
 pub timestamp-followed : (n : ℕ) (walk : Walk) (tuples : List Tuple) (k : ℕ) → clients_of walk.version ≡ n → IsClient n k
     → AllByRecursion (IsTupleFor n) tuples
     → timestamp_at (followed walk tuples).version k ≡ timestamp_at walk.version k + tuples_by k tuples
@@ -53,19 +55,19 @@ timestamp-followed n walk (tuple ∷ rest) k sized c all =
           omega (arith, more, none, counted)
     ]
 
--- none of the tuples that pass is by the own client
+-- None of the tuples that pass is by the own client.
 pub tuples_by-own : (key : List ℕ) (me : ℕ) (proofs : List (Option (List ℕ))) (walk : Walk) (tuples : List Tuple)
     → AreTuplesPassed key me proofs walk tuples → tuples_by me tuples ≡ 0
 tuples_by-own key me proofs walk [] h = refl
 tuples_by-own key me proofs walk (tuple ∷ rest) h =
     cond-false _ _ _ (ne_eqb _ _ h.0.of_another) ∙ tuples_by-own key me proofs (advanced walk tuple.client) rest h.1
 
--- what is told has the next version
+-- What is told has the next version.
 pub next-told : (next : Vector) (read : Option ReadPart) → (told_of next read).next ≡ next
 next-told next None = refl
 next-told next (Some part) = refl
 
--- the next version counts the tuples of another client, and the own operation
+-- The next version counts the tuples of another client, and the own operation.
 pub timestamp-next_other : (n me k : ℕ) (reply : Reply) → IsReplyFor n reply → IsClient n me → IsClient n k → k ≢ me
     → timestamp_at (next_of me reply) k ≡ timestamp_at reply.version.version k + tuples_by k reply.pending
 timestamp-next_other n me k reply h own c other =
@@ -83,7 +85,7 @@ timestamp-next_own key n me reply h own passed =
     let along = timestamp-followed n (begun reply) reply.pending me sized own h.pending_in_range in
     omega (arith, last, along, tuples_by-own key me reply.proofs (begun reply) reply.pending passed)
 
--- the digest is that of the chain of all clients so far
+-- The digest is that of the chain of all clients so far.
 pub digest_followed : (walk : Walk) (tuples : List Tuple) (clients : List ℕ) → walk.digest ≡ chain_of clients
     → (followed walk tuples).digest ≡ chain_of (clients_after clients tuples)
 digest_followed walk [] clients h = h

@@ -1,5 +1,5 @@
--- What is hashed: from a tuple on, where no check is broken, and up to a broken one.
-use Rattle.std.proofs.Common.{◌≡◌, ℕ, ◌+◌, ◌<◌, Bool, true, false, is_none, if◌then◌else◌, List, [], ◌∷◌, ◌++◌, length, get_or, drop, Option, Some, None, Result, Ok, IfSome, refl, ap, ◌∙◌}
+-- What is hashed: where no check is broken, from a tuple on, and where the walk comes to its end.
+use Rattle.std.proofs.Common.{◌≡◌, ℕ, ◌+◌, ◌<◌, Bool, true, is_none, if◌then◌else◌, List, [], ◌∷◌, ◌++◌, length, get_or, drop, Option, Some, None, Ok, IfSome, refl, ap, ◌∙◌}
 use Rattle.std.proofs.lemmas.List.{at_drop_more}
 use Rattle.faust_types.specs.Versions.{Vector}
 use Rattle.faust_types.specs.declared.operation.Operation.{Operation}
@@ -9,12 +9,12 @@ use Rattle.faust_types.specs.declared.message.Reply.{Reply}
 use Rattle.faust_types.specs.declared.message.Tuple.{Tuple}
 use Rattle.faust_hash.specs.Chain.{chain_input}
 use Rattle.faust_ustor.specs.declared.walk.Walk.{Walk}
-use Rattle.faust_ustor.specs.Checks.{advanced, begun, broken_base, broken_tuple, unless, walked}
+use Rattle.faust_ustor.specs.Checks.{advanced, begun, broken_tuple, unless, walked}
 use Rattle.faust_ustor.specs.Hashed.{all_inputs, chain_inputs, hashed, inputs_after, inputs_unless, mem_inputs, part_inputs, read_inputs, walk_inputs}
 use Rattle.faust_ustor.specs.Passed.{followed, AreTuplesPassed, IsPartPassed, IsPassed, next_of}
 use Rattle.faust_ustor.proofs.Passes.{base-unbroken, tuple-unbroken, walked-from, walked-passed}
 
--- Of tuples that pass all is hashed.
+-- Of tuples that pass each chain is hashed.
 pub walk_inputs-passed : (key : List ℕ) (me : ℕ) (proofs : List (Option (List ℕ))) (q : ℕ) (walk : Walk) (tuples : List Tuple)
     → AreTuplesPassed key me proofs walk tuples → walk_inputs key me proofs q walk tuples ≡ chain_inputs walk tuples
 walk_inputs-passed key me proofs q walk [] h = refl
@@ -30,6 +30,7 @@ part_inputs-passed : (key : List ℕ) (version next : Vector) (read : Option Rea
 part_inputs-passed key version next None h = refl
 part_inputs-passed key version next (Some part) h = ap (λ (b : Bool). if b then mem_inputs part.mem else []) h.known_right
 
+-- Of a reply that passes all is hashed.
 pub hashed_passed : (key : List ℕ) (me : ℕ) (own : Vector) (op : Operation) (reply : Reply) → IsPassed key me own op reply
     → hashed key me own op reply ≡ all_inputs me reply
 unfolding hashed
@@ -56,28 +57,6 @@ pub none-from : (b : Option Notice) → is_none b ≡ true → b ≡ None
 none-from None h = refl
 none-from (Some notice) h = cc
 
-inputs-stopped : (key : List ℕ) (me : ℕ) (reply : Reply) (b : Option Notice) (inputs : List (List ℕ)) (w : Result Walk Notice)
-    → is_none b ≡ false → inputs_unless b inputs ++ inputs_after key me reply (unless b w) ≡ []
-inputs-stopped key me reply None inputs w h = cc
-inputs-stopped key me reply (Some notice) inputs w h = refl
-
-unless-stopped : (b : Option Notice) (inputs : List (List ℕ)) → is_none b ≡ false → inputs_unless b inputs ≡ []
-unless-stopped None inputs h = cc
-unless-stopped (Some notice) inputs h = refl
-
--- Before the first tuple all is still to be hashed, or nothing where one of the checks 3 to 5 is broken.
-pub hashed-begun : (key : List ℕ) (me : ℕ) (own : Vector) (op : Operation) (reply : Reply)
-    → is_none (broken_base key me own op reply) ≡ true
-    → hashed key me own op reply ≡ rest_inputs key me reply 1 (begun reply) reply.pending
-unfolding hashed
-hashed-begun key me own op reply h =
-    ap (λ (b : Option Notice). inputs_unless b (rest_inputs key me reply 1 (begun reply) reply.pending)) (none-from _ h)
-
-pub hashed-stopped : (key : List ℕ) (me : ℕ) (own : Vector) (op : Operation) (reply : Reply)
-    → is_none (broken_base key me own op reply) ≡ false → hashed key me own op reply ≡ []
-unfolding hashed
-hashed-stopped key me own op reply h = unless-stopped (broken_base key me own op reply) _ h
-
 -- One tuple more, which breaks no check.
 pub rest_inputs-more : (key : List ℕ) (me : ℕ) (reply : Reply) (q : ℕ) (walk : Walk) (pending : List Tuple) (i : ℕ) (d : Tuple)
     → i < length pending → is_none (broken_tuple key me reply.proofs q walk (get_or pending i d)) ≡ true
@@ -92,15 +71,6 @@ rest_inputs-more key me reply q walk pending i d lt h =
     let w = walked key me reply.proofs (q + 1) on behind in
     at_drop_more (rest_inputs key me reply q walk) pending i d lt
     ∙ ap (λ (b : Option Notice). inputs_unless b inputs ++ inputs_after key me reply (unless b w)) (none-from _ h)
-
--- Nothing of a tuple that breaks a check, nor of what is behind it.
-pub rest_inputs-stopped : (key : List ℕ) (me : ℕ) (reply : Reply) (q : ℕ) (walk : Walk) (pending : List Tuple) (i : ℕ) (d : Tuple)
-    → i < length pending → is_none (broken_tuple key me reply.proofs q walk (get_or pending i d)) ≡ false
-    → rest_inputs key me reply q walk (drop i pending) ≡ []
-rest_inputs-stopped key me reply q walk pending i d lt h =
-    let tuple = get_or pending i d in
-    at_drop_more (rest_inputs key me reply q walk) pending i d lt
-    ∙ inputs-stopped key me reply (broken_tuple key me reply.proofs q walk tuple) _ _ h
 
 -- Where the walk comes to its end, all tuples and the own operation are hashed, and what is due of the read part.
 pub inputs-walked : (key : List ℕ) (me : ℕ) (reply : Reply) (end : Walk)

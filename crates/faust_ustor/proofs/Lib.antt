@@ -1,4 +1,6 @@
--- elements of lists, and the ranges that one more operation keeps
+-- elements of a list all of whose elements have a property
+pub mod Elements
+-- one more operation keeps the ranges of a walk
 pub mod Ranges
 -- what it says that no check of a step is broken
 pub mod Steps

@@ -14,7 +14,7 @@ use Rattle.faust_ustor.specs.Checks.{advanced, answered, begun, broken_base, bro
 use Rattle.faust_ustor.specs.Passed.{followed, AreTuplesPassed, IsPartPassed, IsPassed, IsTuplePassed, next_of, told, told_of}
 use Rattle.faust_ustor.proofs.Steps.{base-holds, tuple-another, tuple-holds}
 
--- nothing is broken, and the rest gives the result
+-- Nothing is broken, and the rest gives the result.
 pub record UnlessOk {X : Type 0} (b : Option Notice) (r : Result X Notice) (x : X) : Type 0 where
   pub unbroken : b ≡ None
   pub given : r ≡ Ok x
@@ -33,7 +33,7 @@ from-three true true false x y z p q r = cc
 from-three true false c x y z p q r = cc
 from-three false b c x y z p q r = cc
 
--- the same of four conditions
+-- The same of four conditions.
 record AllFour (a b c d : Bool) : Type 0 where
   first : a ≡ true
   second : b ≡ true
@@ -57,7 +57,7 @@ from-four true true false d x y z u p q r s = cc
 from-four true false c d x y z u p q r s = cc
 from-four false b c d x y z u p q r s = cc
 
--- one tuple
+-- One tuple: it breaks no check exactly where it passes.
 tuple-passed : (key : List ℕ) (me : ℕ) (proofs : List (Option (List ℕ))) (q : ℕ) (walk : Walk) (tuple : Tuple)
     → broken_tuple key me proofs q walk tuple ≡ None → IsTuplePassed key me proofs walk tuple
 tuple-passed key me proofs q walk tuple h =
@@ -74,7 +74,7 @@ unfolding broken_tuple
 tuple-unbroken key me proofs q walk tuple h =
     from-three _ _ _ _ _ _ (not-from (tuple.client == me) (ne_eqb tuple.client me h.of_another)) h.proven h.submitted
 
--- all tuples
+-- All tuples: the walk comes to its end exactly where they pass.
 pub record WalkedOk (key : List ℕ) (me : ℕ) (proofs : List (Option (List ℕ))) (walk : Walk) (tuples : List Tuple)
     (end : Walk) : Type 0 where
   pub passed : AreTuplesPassed key me proofs walk tuples
@@ -97,7 +97,7 @@ walked-from key me proofs q walk (tuple ∷ rest) h =
     (followed (advanced walk tuple.client) rest)
     (tuple-unbroken key me proofs q walk tuple h.0) (walked-from key me proofs (q + 1) (advanced walk tuple.client) rest h.1)
 
--- the read part
+-- The read part.
 recent-true : (at t : ℕ) → ((at == t) || (at + 1 == t)) ≡ true → (at ≡ t) ⊎ (at + 1 ≡ t)
 recent-true at t h = elim (or_cases _ _ h) [
   | inl same ↦ inl (eqb-true at t same)
@@ -151,7 +151,7 @@ answered-from key version next None h = refl
 answered-from key version next (Some part) h = unless-from (broken_part key version next part) (Ok (told_of next (Some part)))
     (told_of next (Some part)) (part-unbroken key version next part h) refl
 
--- checks 3 to 5
+-- Checks 3 to 5.
 pub base-unbroken : (key : List ℕ) (me : ℕ) (own : Vector) (op : Operation) (reply : Reply) → IsPassed key me own op reply
     → broken_base key me own op reply ≡ None
 unfolding broken_base
@@ -160,7 +160,7 @@ base-unbroken key me own op reply h =
     (is_own_kept me own reply.version.version) _ _ _ h.part_fits h.known_right
     (and_from _ _ ((is_at_most-means own reply.version.version).1 h.own_at_most) (eq-eqb _ _ h.own_counted))
 
--- after the tuples
+-- After the tuples.
 record CompletedOk (key : List ℕ) (me : ℕ) (reply : Reply) (w : Result Walk Notice) (judged : Judged) : Type 0 where
   walk : Walk
   came : w ≡ Ok walk
@@ -171,7 +171,7 @@ completed-parts : (key : List ℕ) (me : ℕ) (reply : Reply) (w : Result Walk N
 completed-parts key me reply (Ok walk) judged h = record { walk = walk; came = refl; answers = h }
 completed-parts key me reply (Err notice) judged h = cc
 
--- after checks 3 to 8 the answer is that of the read part
+-- After checks 3 to 8 the answer is that of the read part.
 pub judged-reached : (key : List ℕ) (me : ℕ) (own : Vector) (op : Operation) (reply : Reply) (walk : Walk)
     → broken_base key me own op reply ≡ None → walked key me reply.proofs 1 (begun reply) reply.pending ≡ Ok walk
     → judged key me own op reply ≡ answered key reply.version.version (advanced walk me).version reply.read
@@ -180,7 +180,7 @@ judged-reached key me own op reply walk none came =
     ap (λ (b : Option Notice). unless b (completed key me reply (walked key me reply.proofs 1 (begun reply) reply.pending))) none
     ∙ ap (completed key me reply) came
 
--- what passes breaks no check, and tells what is due
+-- What passes breaks no check, and tells what is due.
 pub record JudgedOk (key : List ℕ) (me : ℕ) (own : Vector) (op : Operation) (reply : Reply) (judged : Judged) : Type 0 where
   pub passed : IsPassed key me own op reply
   pub tells : judged ≡ told me reply
@@ -211,7 +211,7 @@ judged-passed key me own op reply j h =
       tells = last.tells;
     }
 
--- what breaks no check passes
+-- What breaks no check passes.
 pub judged-from : (key : List ℕ) (me : ℕ) (own : Vector) (op : Operation) (reply : Reply) → IsPassed key me own op reply
     → judged key me own op reply ≡ Ok (told me reply)
 unfolding judged

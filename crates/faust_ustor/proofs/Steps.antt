@@ -11,7 +11,7 @@ use Rattle.faust_ustor.specs.declared.walk.Walk.{Walk}
 use Rattle.faust_ustor.specs.InRange.{IsPendingOf, IsWalkFor}
 use Rattle.faust_ustor.specs.Checks.{broken_base, broken_tuple, is_of_another, is_proven, is_next_submitted, is_part_for, is_known_right, is_own_kept, advanced, unless, walked}
 
--- none of three conditions is broken
+-- None of three conditions is broken.
 pub record AllThree (a b c : Bool) : Type 0 where
   pub first : a ≡ true
   pub second : b ≡ true
@@ -24,6 +24,7 @@ none-three true true false x y z h = cc
 none-three true false c x y z h = cc
 none-three false b c x y z h = cc
 
+-- The conditions of checks 6, 7 and 8, and those of checks 3, 4 and 5.
 pub tuple-holds : (key : List ℕ) (me : ℕ) (proofs : List (Option (List ℕ))) (q : ℕ) (walk : Walk) (tuple : Tuple)
     → broken_tuple key me proofs q walk tuple ≡ None
     → AllThree (is_of_another me tuple) (is_proven key proofs walk.version tuple.client) (is_next_submitted key walk.version tuple)
@@ -36,7 +37,7 @@ pub base-holds : (key : List ℕ) (me : ℕ) (own : Vector) (op : Operation) (re
 unfolding broken_base
 base-holds key me own op reply h = none-three _ _ _ _ _ _ h
 
--- a tuple that breaks no check is of another client, which has room for it
+-- A tuple that breaks no check is of another client, which has room for it.
 pub tuple-another : (key : List ℕ) (me : ℕ) (proofs : List (Option (List ℕ))) (q : ℕ) (walk : Walk) (tuple : Tuple)
     → broken_tuple key me proofs q walk tuple ≡ None
     → tuple.client ≡ me → ⊥
@@ -50,12 +51,12 @@ pub tuple-room : (key : List ℕ) (me : ℕ) (proofs : List (Option (List ℕ)))
     → timestamp_at walk.version tuple.client + 1 < 2 ^ 40
 tuple-room key me proofs q walk tuple h = ltb-true _ _ (and_parts _ _ (tuple-holds key me proofs q walk tuple h).third).0
 
--- where checks 3 to 5 hold, the version of c counts the own operations
+-- Where checks 3 to 5 hold, the version of c counts the own operations.
 pub base-own : (key : List ℕ) (me : ℕ) (own : Vector) (op : Operation) (reply : Reply) → broken_base key me own op reply ≡ None
     → timestamp_at own me ≡ timestamp_at reply.version.version me
 base-own key me own op reply h = eqb-true _ _ (and_parts _ _ (base-holds key me own op reply h).third).1
 
--- one tuple more
+-- One tuple more.
 pub walked-more : (key : List ℕ) (me : ℕ) (proofs : List (Option (List ℕ))) (q : ℕ) (walk : Walk) (pending : List Tuple) (i : ℕ)
     (d : Tuple)
     → i < length pending → broken_tuple key me proofs q walk (get_or pending i d) ≡ None
@@ -66,7 +67,7 @@ walked-more key me proofs q walk pending i d lt h =
     ∙ ap (λ (b : Option Notice). unless b
     (walked key me proofs (q + 1) (advanced walk (get_or pending i d).client) (drop (i + 1) pending))) h
 
--- after the tuples there is room for the own operation
+-- After the tuples there is room for the own operation.
 pub own-room : (key : List ℕ) (me : ℕ) (own : Vector) (op : Operation) (reply : Reply) (n : ℕ) (walk : Walk) → IsPendingOf me own op
     → broken_base key me own op reply ≡ None
     → IsWalkFor n me (timestamp_at reply.version.version me) walk → timestamp_at walk.version me + 1 < 2 ^ 40

@@ -155,6 +155,7 @@ completed-stops key me own op reply notice (Err other) none came h =
     let same : other ≡ notice = cc in
     at_tuple none (came ∙ ap (λ (n : Notice). Err n) same)
 
+-- Judging that comes to a notice stops there.
 pub judged-stops : (key : List ℕ) (me : ℕ) (own : Vector) (op : Operation) (reply : Reply) (notice : Notice)
     → judged key me own op reply ≡ Err notice → Stops key me own op reply notice
 unfolding judged
@@ -216,6 +217,7 @@ hashed-walked : (key : List ℕ) (me : ℕ) (own : Vector) (op : Operation) (rep
 hashed-walked key me own op reply end none came =
     hashed-unbroken key me own op reply (Ok end) none came ∙ inputs-walked key me reply end came
 
+-- What was hashed where judging comes to a notice, by its check.
 pub hashed-up_to : (key : List ℕ) (me : ℕ) (own : Vector) (op : Operation) (reply : Reply) (notice : Notice)
     → judged key me own op reply ≡ Err notice → HashedUpTo key me own op reply notice
 hashed-up_to key me own op reply notice h =

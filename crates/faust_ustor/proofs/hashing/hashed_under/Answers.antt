@@ -8,7 +8,8 @@ use Rattle.faust_ustor.specs.declared.walk.Walk.{Walk}
 use Rattle.faust_ustor.specs.InRange.{IsWalkFor}
 use Rattle.faust_ustor.specs.Checks.{advanced, broken_tuple}
 use Rattle.faust_ustor.proofs.Inputs.{none-from, rest_inputs, rest_inputs-more}
-use Rattle.faust_ustor.proofs.Ranges.{at-all, walk_for-advanced}
+use Rattle.faust_ustor.proofs.Elements.{at-all}
+use Rattle.faust_ustor.proofs.Ranges.{walk_for-advanced}
 use Rattle.faust_ustor.proofs.Steps.{tuple-another, tuple-room}
 use Rattle.faust_ustor.proofs.hashing.hashed_under.Goals as goal
 

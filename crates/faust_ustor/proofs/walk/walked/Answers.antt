@@ -6,7 +6,8 @@ use Rattle.faust_types.specs.declared.operation.Kind.TheVariants.{Write}
 use Rattle.faust_ustor.specs.declared.walk.Walk.{Walk}
 use Rattle.faust_ustor.specs.InRange.{IsWalkFor}
 use Rattle.faust_ustor.specs.Checks.{advanced, broken_tuple, walked}
-use Rattle.faust_ustor.proofs.Ranges.{at-all, walk_for-advanced}
+use Rattle.faust_ustor.proofs.Elements.{at-all}
+use Rattle.faust_ustor.proofs.Ranges.{walk_for-advanced}
 use Rattle.faust_ustor.proofs.Steps.{tuple-another, tuple-room, walked-more}
 use Rattle.faust_ustor.proofs.walk.walked.Goals as goal
 

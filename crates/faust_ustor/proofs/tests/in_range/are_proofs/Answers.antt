@@ -1,6 +1,6 @@
 use Rattle.std.proofs.Common.{ℕ, List, Option, None, IfSome, arith}
 use Rattle.faust_types.specs.Ranges.{IsDigest}
-use Rattle.faust_ustor.proofs.Ranges.{all-from}
+use Rattle.faust_ustor.proofs.Elements.{all-from}
 use Rattle.faust_ustor.proofs.tests.in_range.are_proofs.Goals as goal
 
 pub returns : goal.returns

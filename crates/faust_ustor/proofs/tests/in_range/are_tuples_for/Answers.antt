@@ -2,7 +2,7 @@ use Rattle.std.proofs.Common.{[], arith}
 use Rattle.faust_types.specs.Ranges.{IsTupleFor}
 use Rattle.faust_types.specs.declared.message.Tuple.{Tuple}
 use Rattle.faust_types.specs.declared.operation.Kind.TheVariants.{Write}
-use Rattle.faust_ustor.proofs.Ranges.{all-from}
+use Rattle.faust_ustor.proofs.Elements.{all-from}
 use Rattle.faust_ustor.proofs.tests.in_range.are_tuples_for.Goals as goal
 
 pub returns : goal.returns
