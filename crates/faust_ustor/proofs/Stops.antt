@@ -166,20 +166,27 @@ judged-stops key me own op reply notice h =
       | broken_after none later ↦ completed-stops key me own op reply notice w none refl later
     ]
 
--- A notice of judging has the number of a check.
-pub judged-noticed : (key : List ℕ) (me : ℕ) (own : Vector) (op : Operation) (reply : Reply) (notice : Notice)
-    → judged key me own op reply ≡ Err notice → IsCheck notice.check
-judged-noticed key me own op reply notice h =
+-- A notice of judging is of one of the checks 3 to 12.
+pub judged-within : (key : List ℕ) (me : ℕ) (own : Vector) (op : Operation) (reply : Reply) (notice : Notice)
+    → judged key me own op reply ≡ Err notice → IsWithin 3 12 notice
+judged-within key me own op reply notice h =
     elim (judged-stops key me own op reply notice h) [
       | at_base here ↦
           let told = base-noticed key me own op reply notice here in
-          record { from_one = omega (arith, told.from_low); to_15 = omega (arith, told.to_high) }
+          record { from_low = told.from_low; to_high = omega (arith, told.to_high) }
       | at_tuple none here ↦
           let told = walked-noticed key me reply.proofs 1 (begun reply) reply.pending notice here in
-          record { from_one = omega (arith, told.within.from_low); to_15 = omega (arith, told.within.to_high) }
+          record { from_low = omega (arith, told.within.from_low); to_high = omega (arith, told.within.to_high) }
       | at_part none end came part there told ↦
-          record { from_one = omega (arith, told.within.from_low); to_15 = omega (arith, told.within.to_high) }
+          record { from_low = omega (arith, told.within.from_low); to_high = told.within.to_high }
     ]
+
+-- So it has the number of a check.
+pub judged-noticed : (key : List ℕ) (me : ℕ) (own : Vector) (op : Operation) (reply : Reply) (notice : Notice)
+    → judged key me own op reply ≡ Err notice → IsCheck notice.check
+judged-noticed key me own op reply notice h =
+    let within = judged-within key me own op reply notice h in
+    record { from_one = omega (arith, within.from_low); to_15 = omega (arith, within.to_high) }
 
 -- What is hashed where judging comes to a notice.
 pub record HashedUpTo (key : List ℕ) (me : ℕ) (own : Vector) (op : Operation) (reply : Reply) (notice : Notice) : Type 0 where

@@ -56,10 +56,14 @@ pub fn what_passes_is_in_range()
         IsJudgedFor (clients_of own) op.register answer }
 {}
 
-/// A broken condition has the number of a check.
+/// A broken condition is one of the checks 3 to 12, and so has the number of a check.
 pub fn what_is_broken_is_a_check()
-    ensures { (key : List ℕ) (me : ℕ) (own : Vector) (op : Operation) (reply : Reply) (notice : Notice) →
+    ensures check { (key : List ℕ) (me : ℕ) (own : Vector) (op : Operation) (reply : Reply) (notice : Notice) →
         judged key me own op reply ≡ Err notice → IsCheck notice.check }
+    ensures from_3 { (key : List ℕ) (me : ℕ) (own : Vector) (op : Operation) (reply : Reply) (notice : Notice) →
+        judged key me own op reply ≡ Err notice → 3 ≤ notice.check }
+    ensures to_12 { (key : List ℕ) (me : ℕ) (own : Vector) (op : Operation) (reply : Reply) (notice : Notice) →
+        judged key me own op reply ≡ Err notice → notice.check ≤ 12 }
 {}
 
 /// A walk that begins with the digest of a chain of clients has at its end the digest of the chain of those and
