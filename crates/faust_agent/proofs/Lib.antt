@@ -1,0 +1,6 @@
+-- each row keeps what every client keeps
+pub mod Kept
+-- the first version that doesn't fit, the greatest one, and the cut
+pub mod Slots
+-- the round of a tick, and the pending operation
+pub mod Rounds

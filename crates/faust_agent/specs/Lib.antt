@@ -1,0 +1,5 @@
+pub mod State
+pub mod Deeds
+pub mod Table
+pub mod Outcomes
+pub mod InRange
