@@ -1,6 +1,5 @@
 // A counter that no type names yet.
-ghost use Rattle.std.specs.Prelude.{◌≡◌, IfOk};
-ghost use Rattle.std.specs.Arc.{arc_value};
+ghost use Rattle.std.specs.Prelude.{◌≡◌};
 ghost use Rattle.faust_ticket.specs.Holders.{first_root};
 
 use crate::counter::Counter;
@@ -8,7 +7,7 @@ use crate::root::Root;
 use crate::table::{Tickets, Token};
 use faust_types::OutOfMemory;
 use std::alloc::Global;
-use std::marker::{Model, PhantomData};
+use std::marker::Model;
 use std::sync::Arc;
 
 /// A counter of which no number is drawn, and which no type names yet. Contracts see its name.
@@ -32,7 +31,7 @@ impl Model for Blank {
     ghost invariant = { λ b. IsOf b.token.table_id (arc_value b.table).shared.table_id b.token (root first_root) };
 }
 
-/// A new counter.
+/// A new counter. What is known of it stands in the type: no number is drawn yet.
 pub fn start(alloc: Global) -> Result<Blank, OutOfMemory> {
     let (table, token) = Tickets::of_words(alloc, &[0], &())?;
     let table = Arc::new(alloc, table)?;

@@ -2,7 +2,7 @@
 ghost use Rattle.std.specs.Prelude.{◌≡◌, ◌^◌, ◌≤◌, IfOk, OnOk, OnErr, length};
 ghost use Rattle.std.specs.Arc.{arc_value};
 ghost use Rattle.faust_ticket.specs.Numbers.{HoldsEachBelow};
-ghost use Rattle.faust_ticket.specs.Holders.{RootView, first_root, first_seat, after_split, after_join};
+ghost use Rattle.faust_ticket.specs.Holders.{first_root, first_seat, after_split, after_join};
 ghost use Rattle.faust_ticket.specs.Rule.{root};
 ghost use Rattle.faust_ticket.specs.Tokens.{IsOf};
 

@@ -1,5 +1,5 @@
 // A seat of a counter: it draws numbers.
-ghost use Rattle.std.specs.Prelude.{◌≡◌, ◌^◌, ◌<◌, All, []};
+ghost use Rattle.std.specs.Prelude.{◌≡◌, ◌^◌, ◌<◌, All};
 ghost use Rattle.std.specs.Arc.{arc_value};
 ghost use Rattle.faust_ticket.specs.Holders.{first_seat, after_draw};
 ghost use Rattle.faust_ticket.specs.Rule.{seat};
