@@ -3,4 +3,5 @@ pub mod EventLaws
 pub mod LineSteps
 pub mod ScriptLaws
 pub mod RefusalLaws
+pub mod InRangeLaws
 pub mod GoingOn

@@ -47,28 +47,14 @@ whole_line-only line text found =
 whole_line-again : (text : List ℕ) → length text ≤ 40000 → whole_line (ended_line text) ≡ Ok text
 whole_line-again text few = cond-false (ltb 40000 (length text)) (Err causes.TooLong) (Ok text) (le-ltb _ _ few)
 
--- One line of lines that make a script.
-pub record Step (stage : Stage) (number : ℕ) (lines : List TextLine) (script : Script) : Type 0 where
-  pub text : List ℕ
-  pub behind : List TextLine
-  pub next : Stage
-  pub lines_are : lines ≡ ended_line text ∷ behind
-  pub fits : length text ≤ 40000
-  pub read : text_at stage text ≡ Ok next
-  pub rest : lines_from next (number + 1) behind ≡ Ok script
+pub ended_lines-append : (xs ys : List (List ℕ)) → ended_lines (xs ++ ys) ≡ ended_lines xs ++ ended_lines ys
+ended_lines-append [] ys = refl
+ended_lines-append (x ∷ xs) ys = ap (λ ls. ended_line x ∷ ls) (ended_lines-append xs ys)
 
-after_line : (number : ℕ) (lines : List TextLine) (r : Result Stage Cause) (script : Script) → and_then_lines number (λ next. lines_from next (number + 1) lines) r ≡ Ok script → (next : Stage) × (r ≡ Ok next) × (lines_from next (number + 1) lines ≡ Ok script)
+-- One line of lines that make a script.
+pub after_line : (number : ℕ) (lines : List TextLine) (r : Result Stage Cause) (script : Script) → and_then_lines number (λ next. lines_from next (number + 1) lines) r ≡ Ok script → (next : Stage) × (r ≡ Ok next) × (lines_from next (number + 1) lines ≡ Ok script)
 after_line number lines (Ok next) script found = (next, refl, found)
 after_line number lines (Err cause) script found = absurd (cc)
-
-pub step_only : (stage : Stage) (number : ℕ) (lines : List TextLine) (script : Script) → (finished stage number ≡ Ok script → ⊥) → lines_from stage number lines ≡ Ok script → Step stage number lines script
-unfolding lines_from stage_at
-step_only stage number [] script unfinished found = absurd (unfinished found)
-step_only stage number (line ∷ lines) script unfinished found =
-    let next = after_line number lines (stage_at stage line) script found in
-    let text = bind_ok (whole_line line) (text_at stage) next.0 next.1 in
-    let whole = whole_line-only line text.0 text.1 in
-    record { text = text.0; behind = lines; next = next.0; lines_are = ap (λ l. l ∷ lines) whole.0; fits = whole.1; read = text.2; rest = next.2 }
 
 pub step_found : (stage next : Stage) (number : ℕ) (text : List ℕ) (lines : List TextLine) → length text ≤ 40000 → text_at stage text ≡ Ok next → lines_from stage number (ended_line text ∷ lines) ≡ lines_from next (number + 1) lines
 unfolding lines_from stage_at

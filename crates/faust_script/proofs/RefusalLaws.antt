@@ -7,15 +7,13 @@ use Rattle.std.proofs.lemmas.List.{length-take-le, take-append-drop}
 use Rattle.std.proofs.lemmas.Slice.Eq.{bytes_eq-Decides}
 use Rattle.faust_text.specs.declared.cause.Cause.{Cause}
 use Rattle.faust_text.specs.declared.cause.Cause.TheVariants as causes
-use Rattle.faust_text.specs.declared.head.Head.TheVariants as heads
-use Rattle.faust_text.specs.declared.head.HeadStep.{HeadStep}
-use Rattle.faust_text.specs.declared.head.HeadStep.TheVariants as steps
-use Rattle.faust_text.specs.Fields.{Field, AllGiven, kind, value, bytes, field_at, fields_at, ◌>>=◌}
-use Rattle.faust_text.specs.Heads.{clients_form, key_form, delta_form, dummy_form, head_at}
+use Rattle.faust_text.specs.Fields.{Field, AllGiven, field_at, fields_at, ◌>>=◌}
+use Rattle.faust_text.specs.Heads.{head_at}
 use Rattle.faust_text.specs.Lines.{TextLine, lines_of}
 use Rattle.faust_text.specs.Spelled.{IsFirstFault}
 use Rattle.faust_text.specs.Tokens.{tokens_of}
 use Rattle.faust_text.proofs.FieldLaws.{bind_ok, bind_err, field_faults, field_spells, fields_fault, ok_same}
+use Rattle.faust_text.proofs.HeadLaws.{head_faults}
 use Rattle.faust_script.specs.declared.event.Event.{Event}
 use Rattle.faust_script.specs.declared.event.Event.TheVariants as event
 use Rattle.faust_script.specs.declared.edit.Edit.{Edit}
@@ -27,8 +25,8 @@ use Rattle.faust_script.specs.declared.word.EventWord.{EventWord}
 use Rattle.faust_script.specs.declared.word.EventWord.TheVariants as words
 use Rattle.faust_script.specs.declared.word.EditWord.{EditWord}
 use Rattle.faust_script.specs.declared.word.EditWord.TheVariants as edit_words
-use Rattle.faust_script.specs.Forms.{client, place, branch, moment, timestamp, edit_by, edit_named, edit_at, client_and_edit_at, event_by, event_named, event_at}
-use Rattle.faust_script.specs.Parsing.{Refusal, after_head, and_then_lines, finished, lines_from, parsed, stage_at, text_at, title_form, with_event}
+use Rattle.faust_script.specs.Forms.{client, edit_form, event_form, edit_by, edit_named, edit_at, client_and_edit_at, event_by, event_named, event_at}
+use Rattle.faust_script.specs.Parsing.{Refusal, after_head, and_then_lines, finished, lines_from, parsed, script_form, stage_at, start, text_at, with_event}
 use Rattle.faust_script.specs.Refusals.{IsEditFault, IsEditFaultOf, IsEditingFault, IsEventFault, IsEventFaultOf, IsTextFault, IsLineFault, IsNotEnded, IsRefusedThere, IsRefused, reached}
 use Rattle.faust_script.specs.Words.{event_word, edit_word}
 
@@ -46,22 +44,22 @@ faulty fields make tokens cause =
 -- Edits.
 edit_by-fault : (n : ℕ) (word : EditWord) (tokens : List (List ℕ)) (cause : Cause) → (edit_by n word tokens ≡ Err cause) ↔ IsEditFaultOf n (Some word) tokens cause
 unfolding edit_by
-edit_by-fault n edit_words.C tokens cause = faulty (client n ∷ []) (λ given. edit.C given.0) tokens cause
-edit_by-fault n edit_words.V tokens cause = faulty (client n ∷ timestamp ∷ []) (λ given. edit.V given.0 given.1.0) tokens cause
-edit_by-fault n edit_words.M tokens cause = faulty (client n ∷ []) (λ given. edit.M given.0) tokens cause
-edit_by-fault n edit_words.Ctag tokens cause = faulty ([]) (λ given. edit.Ctag) tokens cause
-edit_by-fault n edit_words.Add tokens cause = faulty (client n ∷ kind ∷ client n ∷ []) (λ given. edit.Add given.0 given.1.0 given.1.1.0) tokens cause
-edit_by-fault n edit_words.DropTuple tokens cause = faulty (place ∷ []) (λ given. edit.DropTuple given.0) tokens cause
-edit_by-fault n edit_words.Swap tokens cause = faulty (place ∷ []) (λ given. edit.Swap given.0) tokens cause
-edit_by-fault n edit_words.Ltag tokens cause = faulty (place ∷ []) (λ given. edit.Ltag given.0) tokens cause
-edit_by-fault n edit_words.Proof tokens cause = faulty (client n ∷ []) (λ given. edit.Proof given.0) tokens cause
-edit_by-fault n edit_words.Noproof tokens cause = faulty (client n ∷ []) (λ given. edit.Noproof given.0) tokens cause
-edit_by-fault n edit_words.Jv tokens cause = faulty (client n ∷ timestamp ∷ []) (λ given. edit.Jv given.0 given.1.0) tokens cause
-edit_by-fault n edit_words.Jtag tokens cause = faulty ([]) (λ given. edit.Jtag) tokens cause
-edit_by-fault n edit_words.T tokens cause = faulty (timestamp ∷ []) (λ given. edit.T given.0) tokens cause
-edit_by-fault n edit_words.Value tokens cause = faulty (value ∷ []) (λ given. edit.Value given.0) tokens cause
-edit_by-fault n edit_words.Dtag tokens cause = faulty ([]) (λ given. edit.Dtag) tokens cause
-edit_by-fault n edit_words.Unread tokens cause = faulty ([]) (λ given. edit.Unread) tokens cause
+edit_by-fault n edit_words.C tokens cause = faulty (edit_form n edit_words.C) (λ given. edit.C given.0) tokens cause
+edit_by-fault n edit_words.V tokens cause = faulty (edit_form n edit_words.V) (λ given. edit.V given.0 given.1.0) tokens cause
+edit_by-fault n edit_words.M tokens cause = faulty (edit_form n edit_words.M) (λ given. edit.M given.0) tokens cause
+edit_by-fault n edit_words.Ctag tokens cause = faulty (edit_form n edit_words.Ctag) (λ given. edit.Ctag) tokens cause
+edit_by-fault n edit_words.Add tokens cause = faulty (edit_form n edit_words.Add) (λ given. edit.Add given.0 given.1.0 given.1.1.0) tokens cause
+edit_by-fault n edit_words.DropTuple tokens cause = faulty (edit_form n edit_words.DropTuple) (λ given. edit.DropTuple given.0) tokens cause
+edit_by-fault n edit_words.Swap tokens cause = faulty (edit_form n edit_words.Swap) (λ given. edit.Swap given.0) tokens cause
+edit_by-fault n edit_words.Ltag tokens cause = faulty (edit_form n edit_words.Ltag) (λ given. edit.Ltag given.0) tokens cause
+edit_by-fault n edit_words.Proof tokens cause = faulty (edit_form n edit_words.Proof) (λ given. edit.Proof given.0) tokens cause
+edit_by-fault n edit_words.Noproof tokens cause = faulty (edit_form n edit_words.Noproof) (λ given. edit.Noproof given.0) tokens cause
+edit_by-fault n edit_words.Jv tokens cause = faulty (edit_form n edit_words.Jv) (λ given. edit.Jv given.0 given.1.0) tokens cause
+edit_by-fault n edit_words.Jtag tokens cause = faulty (edit_form n edit_words.Jtag) (λ given. edit.Jtag) tokens cause
+edit_by-fault n edit_words.T tokens cause = faulty (edit_form n edit_words.T) (λ given. edit.T given.0) tokens cause
+edit_by-fault n edit_words.Value tokens cause = faulty (edit_form n edit_words.Value) (λ given. edit.Value given.0) tokens cause
+edit_by-fault n edit_words.Dtag tokens cause = faulty (edit_form n edit_words.Dtag) (λ given. edit.Dtag) tokens cause
+edit_by-fault n edit_words.Unread tokens cause = faulty (edit_form n edit_words.Unread) (λ given. edit.Unread) tokens cause
 
 edit_named-fault : (n : ℕ) (o : Option EditWord) (tokens : List (List ℕ)) (cause : Cause) → (edit_named n o tokens ≡ Err cause) ↔ IsEditFaultOf n o tokens cause
 edit_named-fault n None tokens cause = (λ found. cc, λ is. ap Err (sym is))
@@ -101,17 +99,17 @@ editing-fault n (token ∷ tokens) cause = (
 -- Events.
 event_by-fault : (n : ℕ) (word : EventWord) (tokens : List (List ℕ)) (cause : Cause) → (event_by n word tokens ≡ Err cause) ↔ IsEventFaultOf n (Some word) tokens cause
 unfolding event_by
-event_by-fault n words.Write tokens cause = faulty (client n ∷ value ∷ []) (λ given. event.Write given.0 given.1.0) tokens cause
-event_by-fault n words.Read tokens cause = faulty (client n ∷ client n ∷ []) (λ given. event.Read given.0 given.1.0) tokens cause
-event_by-fault n words.Arrive tokens cause = faulty (client n ∷ []) (λ given. event.Arrive given.0) tokens cause
-event_by-fault n words.Reply tokens cause = faulty (client n ∷ []) (λ given. event.Reply given.0) tokens cause
-event_by-fault n words.Tick tokens cause = faulty (client n ∷ moment ∷ []) (λ given. event.Tick given.0 given.1.0) tokens cause
-event_by-fault n words.Peer tokens cause = faulty (client n ∷ client n ∷ place ∷ []) (λ given. event.Peer given.0 given.1.0 given.1.1.0) tokens cause
-event_by-fault n words.Post tokens cause = faulty (client n ∷ bytes ∷ []) (λ given. event.Post given.0 given.1.0) tokens cause
-event_by-fault n words.Branch tokens cause = faulty (branch ∷ branch ∷ []) (λ given. event.Branch given.0 given.1.0) tokens cause
-event_by-fault n words.Route tokens cause = faulty (client n ∷ branch ∷ []) (λ given. event.Route given.0 given.1.0) tokens cause
-event_by-fault n words.Echo tokens cause = faulty (client n ∷ place ∷ branch ∷ []) (λ given. event.Echo given.0 given.1.0 given.1.1.0) tokens cause
-event_by-fault n words.Again tokens cause = faulty (client n ∷ place ∷ []) (λ given. event.Again given.0 given.1.0) tokens cause
+event_by-fault n words.Write tokens cause = faulty (event_form n words.Write) (λ given. event.Write given.0 given.1.0) tokens cause
+event_by-fault n words.Read tokens cause = faulty (event_form n words.Read) (λ given. event.Read given.0 given.1.0) tokens cause
+event_by-fault n words.Arrive tokens cause = faulty (event_form n words.Arrive) (λ given. event.Arrive given.0) tokens cause
+event_by-fault n words.Reply tokens cause = faulty (event_form n words.Reply) (λ given. event.Reply given.0) tokens cause
+event_by-fault n words.Tick tokens cause = faulty (event_form n words.Tick) (λ given. event.Tick given.0 given.1.0) tokens cause
+event_by-fault n words.Peer tokens cause = faulty (event_form n words.Peer) (λ given. event.Peer given.0 given.1.0 given.1.1.0) tokens cause
+event_by-fault n words.Post tokens cause = faulty (event_form n words.Post) (λ given. event.Post given.0 given.1.0) tokens cause
+event_by-fault n words.Branch tokens cause = faulty (event_form n words.Branch) (λ given. event.Branch given.0 given.1.0) tokens cause
+event_by-fault n words.Route tokens cause = faulty (event_form n words.Route) (λ given. event.Route given.0 given.1.0) tokens cause
+event_by-fault n words.Echo tokens cause = faulty (event_form n words.Echo) (λ given. event.Echo given.0 given.1.0 given.1.1.0) tokens cause
+event_by-fault n words.Again tokens cause = faulty (event_form n words.Again) (λ given. event.Again given.0 given.1.0) tokens cause
 event_by-fault n words.Edit tokens cause =
     let there = made_err (client_and_edit_at n tokens) (λ given. event.Edited given.0 given.1) cause in
     let law = editing-fault n tokens cause in
@@ -120,7 +118,7 @@ event_by-fault n words.Forge tokens cause =
     let there = made_err (client_and_edit_at n tokens) (λ given. event.Forged given.0 given.1) cause in
     let law = editing-fault n tokens cause in
     (λ found. law.0 (there.0 found), λ is. there.1 (law.1 is))
-event_by-fault n words.Raw tokens cause = faulty (client n ∷ bytes ∷ []) (λ given. event.Raw given.0 given.1.0) tokens cause
+event_by-fault n words.Raw tokens cause = faulty (event_form n words.Raw) (λ given. event.Raw given.0 given.1.0) tokens cause
 
 event_named-fault : (n : ℕ) (o : Option EventWord) (tokens : List (List ℕ)) (cause : Cause) → (event_named n o tokens ≡ Err cause) ↔ IsEventFaultOf n o tokens cause
 event_named-fault n None tokens cause = (λ found. cc, λ is. ap Err (sym is))
@@ -162,19 +160,12 @@ events-fault s text cause =
           cond-false (bytes_eq text (codes "end")) (Ok (stages.Ended s)) (cond (leb 20000 (length s.events)) (Err causes.Events) (event_at s.config.clients (tokens_of text) >>= grown s)) (false_from_ne_true (bytes_eq text (codes "end")) (λ same. is.0 ((bytes_eq-Decides text (codes "end")).0 same))) ∙ behind,
     )
 
-head-fault : (fields : List Field) (make : AllGiven fields → HeadStep) (text : List ℕ) (cause : Cause) → (let f : AllGiven fields → Result HeadStep Cause = λ given. Ok (make given) in let g : HeadStep → Result Stage Cause = λ step. Ok (after_head step) in ((fields_at fields (tokens_of text) >>= f) >>= g) ≡ Err cause) ↔ IsFirstFault fields (tokens_of text) cause
-head-fault fields make text cause =
-    let law = faulty fields make (tokens_of text) cause in
-    let there = made_err (fields_at fields (tokens_of text) >>= (λ given. Ok (make given))) after_head cause in
-    (λ found. law.0 (there.0 found), λ is. there.1 (law.1 is))
-
 text-fault : (stage : Stage) (text : List ℕ) (cause : Cause) → (text_at stage text ≡ Err cause) ↔ IsTextFault stage text cause
-unfolding text_at head_at
-text-fault stages.Title text cause = faulty title_form (λ given. stages.Head heads.Clients) (tokens_of text) cause
-text-fault (stages.Head heads.Clients) text cause = head-fault clients_form (λ given. steps.Next (heads.Key given.1.0)) text cause
-text-fault (stages.Head (heads.Key n)) text cause = head-fault key_form (λ given. steps.Next (heads.Delta n given.1.0)) text cause
-text-fault (stages.Head (heads.Delta n key)) text cause = head-fault delta_form (λ given. steps.Next (heads.Dummy n key given.1.0)) text cause
-text-fault (stages.Head (heads.Dummy n key delta)) text cause = head-fault dummy_form (λ given. steps.Whole (record { clients = n; key = key; delta = delta; dummy = given.1.0 })) text cause
+unfolding text_at
+text-fault (stages.Head head) text cause =
+    let there = made_err (head_at script_form head (tokens_of text)) after_head cause in
+    let law = head_faults script_form head (tokens_of text) cause in
+    (λ found. law.0 (there.0 found), λ is. there.1 (law.1 is))
 text-fault (stages.Events s) text cause = events-fault s text cause
 text-fault (stages.Ended s) text cause = (λ found. cc, λ is. ap Err (sym is))
 
@@ -232,13 +223,11 @@ refusal_same : (x y : Refusal) → (let left : Result Script Refusal = Err x in 
 refusal_same x y same = ap (λ (r : Result Script Refusal). refusal_of x r) same
 
 ended-fault : (stage : Stage) (number : ℕ) (refusal : Refusal) → finished stage number ≡ Err refusal → (refusal.line ≡ number) × (refusal.cause ≡ causes.CutOff) × IsNotEnded stage
-ended-fault stages.Title number refusal found = let same = refusal_same (record { line = number; cause = causes.CutOff }) refusal found in (sym (ap (λ r. r.line) same), sym (ap (λ r. r.cause) same), tt)
 ended-fault (stages.Head head) number refusal found = let same = refusal_same (record { line = number; cause = causes.CutOff }) refusal found in (sym (ap (λ r. r.line) same), sym (ap (λ r. r.cause) same), tt)
 ended-fault (stages.Events s) number refusal found = let same = refusal_same (record { line = number; cause = causes.CutOff }) refusal found in (sym (ap (λ r. r.line) same), sym (ap (λ r. r.cause) same), tt)
 ended-fault (stages.Ended s) number refusal found = absurd (cc)
 
 not_ended : (stage : Stage) (number : ℕ) → IsNotEnded stage → finished stage number ≡ Err (record { line = number; cause = causes.CutOff })
-not_ended stages.Title number is = refl
 not_ended (stages.Head head) number is = refl
 not_ended (stages.Events s) number is = refl
 not_ended (stages.Ended s) number is = absurd is
@@ -277,7 +266,7 @@ pub refusals_are : (input : List ℕ) (refusal : Refusal) → (parsed input ≡ 
 unfolding parsed
 refusals_are input refusal = (
   λ found.
-      let is = refused_lines (lines_of input) stages.Title 1 refusal found in
+      let is = refused_lines (lines_of input) start 1 refusal found in
       record { before = is.before; line_is = omega (arith, is.line_is); within = is.within; stage = is.last; read_before = is.read_before; why = is.why },
   λ is.
       let lines = lines_of input in
@@ -285,7 +274,7 @@ refusals_are input refusal = (
       let behind = drop is.before lines in
       let count : length front ≡ is.before = length-take-le is.before lines is.within in
       let line : 1 + length front ≡ refusal.line = omega (arith, count, is.line_is) in
-      ap (lines_from stages.Title 1) (sym (take-append-drop is.before lines))
-      ∙ (lines_from-behind front behind stages.Title is.stage 1 is.read_before
+      ap (lines_from start 1) (sym (take-append-drop is.before lines))
+      ∙ (lines_from-behind front behind start is.stage 1 is.read_before
       ∙ (refused_there behind is.stage (1 + length front) refusal.cause is.why ∙ ap (λ q. Err (record { line = q; cause = refusal.cause })) line)),
 )

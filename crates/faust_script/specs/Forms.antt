@@ -1,4 +1,5 @@
--- Events and edits: a word, its fields in order, and what they make.
+-- Events and edits: the table of words with their fields, and what they make. The grammar, its refusals and their laws
+-- cite this table.
 use Rattle.std.specs.Prelude.{ℕ, ◌^◌, ◌-◌, List, [], ◌∷◌, Option, Some, None, Result, Ok, Err}
 use Rattle.faust_text.specs.declared.cause.Cause.{Cause}
 use Rattle.faust_text.specs.declared.cause.Cause.TheVariants as causes
@@ -29,24 +30,60 @@ moment = number 0 (2 ^ 40 - 1)
 abbrev pub timestamp : Field
 timestamp = number 1 (2 ^ 40 - 1)
 
+-- The events: a word, and its fields in order. Behind the fields of `edit` and `forge` stands an edit.
+abbrev pub event_form : ℕ → EventWord → List Field
+event_form n words.Write = client n ∷ value ∷ []
+event_form n words.Read = client n ∷ client n ∷ []
+event_form n words.Arrive = client n ∷ []
+event_form n words.Reply = client n ∷ []
+event_form n words.Tick = client n ∷ moment ∷ []
+event_form n words.Peer = client n ∷ client n ∷ place ∷ []
+event_form n words.Post = client n ∷ bytes ∷ []
+event_form n words.Branch = branch ∷ branch ∷ []
+event_form n words.Route = client n ∷ branch ∷ []
+event_form n words.Echo = client n ∷ place ∷ branch ∷ []
+event_form n words.Again = client n ∷ place ∷ []
+event_form n words.Edit = client n ∷ []
+event_form n words.Forge = client n ∷ []
+event_form n words.Raw = client n ∷ bytes ∷ []
+
+-- The edits: a word, and its fields in order.
+abbrev pub edit_form : ℕ → EditWord → List Field
+edit_form n edit_words.C = client n ∷ []
+edit_form n edit_words.V = client n ∷ timestamp ∷ []
+edit_form n edit_words.M = client n ∷ []
+edit_form n edit_words.Ctag = []
+edit_form n edit_words.Add = client n ∷ kind ∷ client n ∷ []
+edit_form n edit_words.DropTuple = place ∷ []
+edit_form n edit_words.Swap = place ∷ []
+edit_form n edit_words.Ltag = place ∷ []
+edit_form n edit_words.Proof = client n ∷ []
+edit_form n edit_words.Noproof = client n ∷ []
+edit_form n edit_words.Jv = client n ∷ timestamp ∷ []
+edit_form n edit_words.Jtag = []
+edit_form n edit_words.T = timestamp ∷ []
+edit_form n edit_words.Value = value ∷ []
+edit_form n edit_words.Dtag = []
+edit_form n edit_words.Unread = []
+
 -- The edit of each word.
 unfoldable pub edit_by : ℕ → EditWord → List (List ℕ) → Result Edit Cause
-edit_by n edit_words.C tokens = fields_at (client n ∷ []) tokens >>= λ given. Ok (edit.C given.0)
-edit_by n edit_words.V tokens = fields_at (client n ∷ timestamp ∷ []) tokens >>= λ given. Ok (edit.V given.0 given.1.0)
-edit_by n edit_words.M tokens = fields_at (client n ∷ []) tokens >>= λ given. Ok (edit.M given.0)
-edit_by n edit_words.Ctag tokens = fields_at [] tokens >>= λ given. Ok edit.Ctag
-edit_by n edit_words.Add tokens = fields_at (client n ∷ kind ∷ client n ∷ []) tokens >>= λ given. Ok (edit.Add given.0 given.1.0 given.1.1.0)
-edit_by n edit_words.DropTuple tokens = fields_at (place ∷ []) tokens >>= λ given. Ok (edit.DropTuple given.0)
-edit_by n edit_words.Swap tokens = fields_at (place ∷ []) tokens >>= λ given. Ok (edit.Swap given.0)
-edit_by n edit_words.Ltag tokens = fields_at (place ∷ []) tokens >>= λ given. Ok (edit.Ltag given.0)
-edit_by n edit_words.Proof tokens = fields_at (client n ∷ []) tokens >>= λ given. Ok (edit.Proof given.0)
-edit_by n edit_words.Noproof tokens = fields_at (client n ∷ []) tokens >>= λ given. Ok (edit.Noproof given.0)
-edit_by n edit_words.Jv tokens = fields_at (client n ∷ timestamp ∷ []) tokens >>= λ given. Ok (edit.Jv given.0 given.1.0)
-edit_by n edit_words.Jtag tokens = fields_at [] tokens >>= λ given. Ok edit.Jtag
-edit_by n edit_words.T tokens = fields_at (timestamp ∷ []) tokens >>= λ given. Ok (edit.T given.0)
-edit_by n edit_words.Value tokens = fields_at (value ∷ []) tokens >>= λ given. Ok (edit.Value given.0)
-edit_by n edit_words.Dtag tokens = fields_at [] tokens >>= λ given. Ok edit.Dtag
-edit_by n edit_words.Unread tokens = fields_at [] tokens >>= λ given. Ok edit.Unread
+edit_by n edit_words.C tokens = fields_at (edit_form n edit_words.C) tokens >>= λ given. Ok (edit.C given.0)
+edit_by n edit_words.V tokens = fields_at (edit_form n edit_words.V) tokens >>= λ given. Ok (edit.V given.0 given.1.0)
+edit_by n edit_words.M tokens = fields_at (edit_form n edit_words.M) tokens >>= λ given. Ok (edit.M given.0)
+edit_by n edit_words.Ctag tokens = fields_at (edit_form n edit_words.Ctag) tokens >>= λ given. Ok edit.Ctag
+edit_by n edit_words.Add tokens = fields_at (edit_form n edit_words.Add) tokens >>= λ given. Ok (edit.Add given.0 given.1.0 given.1.1.0)
+edit_by n edit_words.DropTuple tokens = fields_at (edit_form n edit_words.DropTuple) tokens >>= λ given. Ok (edit.DropTuple given.0)
+edit_by n edit_words.Swap tokens = fields_at (edit_form n edit_words.Swap) tokens >>= λ given. Ok (edit.Swap given.0)
+edit_by n edit_words.Ltag tokens = fields_at (edit_form n edit_words.Ltag) tokens >>= λ given. Ok (edit.Ltag given.0)
+edit_by n edit_words.Proof tokens = fields_at (edit_form n edit_words.Proof) tokens >>= λ given. Ok (edit.Proof given.0)
+edit_by n edit_words.Noproof tokens = fields_at (edit_form n edit_words.Noproof) tokens >>= λ given. Ok (edit.Noproof given.0)
+edit_by n edit_words.Jv tokens = fields_at (edit_form n edit_words.Jv) tokens >>= λ given. Ok (edit.Jv given.0 given.1.0)
+edit_by n edit_words.Jtag tokens = fields_at (edit_form n edit_words.Jtag) tokens >>= λ given. Ok edit.Jtag
+edit_by n edit_words.T tokens = fields_at (edit_form n edit_words.T) tokens >>= λ given. Ok (edit.T given.0)
+edit_by n edit_words.Value tokens = fields_at (edit_form n edit_words.Value) tokens >>= λ given. Ok (edit.Value given.0)
+edit_by n edit_words.Dtag tokens = fields_at (edit_form n edit_words.Dtag) tokens >>= λ given. Ok edit.Dtag
+edit_by n edit_words.Unread tokens = fields_at (edit_form n edit_words.Unread) tokens >>= λ given. Ok edit.Unread
 
 abbrev pub edit_named : ℕ → Option EditWord → List (List ℕ) → Result Edit Cause
 edit_named n None tokens = Err causes.Word
@@ -63,20 +100,20 @@ client_and_edit_at n tokens = next_field (client n) tokens >>= λ given. edit_at
 
 -- The event of each word.
 unfoldable pub event_by : ℕ → EventWord → List (List ℕ) → Result Event Cause
-event_by n words.Write tokens = fields_at (client n ∷ value ∷ []) tokens >>= λ given. Ok (event.Write given.0 given.1.0)
-event_by n words.Read tokens = fields_at (client n ∷ client n ∷ []) tokens >>= λ given. Ok (event.Read given.0 given.1.0)
-event_by n words.Arrive tokens = fields_at (client n ∷ []) tokens >>= λ given. Ok (event.Arrive given.0)
-event_by n words.Reply tokens = fields_at (client n ∷ []) tokens >>= λ given. Ok (event.Reply given.0)
-event_by n words.Tick tokens = fields_at (client n ∷ moment ∷ []) tokens >>= λ given. Ok (event.Tick given.0 given.1.0)
-event_by n words.Peer tokens = fields_at (client n ∷ client n ∷ place ∷ []) tokens >>= λ given. Ok (event.Peer given.0 given.1.0 given.1.1.0)
-event_by n words.Post tokens = fields_at (client n ∷ bytes ∷ []) tokens >>= λ given. Ok (event.Post given.0 given.1.0)
-event_by n words.Branch tokens = fields_at (branch ∷ branch ∷ []) tokens >>= λ given. Ok (event.Branch given.0 given.1.0)
-event_by n words.Route tokens = fields_at (client n ∷ branch ∷ []) tokens >>= λ given. Ok (event.Route given.0 given.1.0)
-event_by n words.Echo tokens = fields_at (client n ∷ place ∷ branch ∷ []) tokens >>= λ given. Ok (event.Echo given.0 given.1.0 given.1.1.0)
-event_by n words.Again tokens = fields_at (client n ∷ place ∷ []) tokens >>= λ given. Ok (event.Again given.0 given.1.0)
+event_by n words.Write tokens = fields_at (event_form n words.Write) tokens >>= λ given. Ok (event.Write given.0 given.1.0)
+event_by n words.Read tokens = fields_at (event_form n words.Read) tokens >>= λ given. Ok (event.Read given.0 given.1.0)
+event_by n words.Arrive tokens = fields_at (event_form n words.Arrive) tokens >>= λ given. Ok (event.Arrive given.0)
+event_by n words.Reply tokens = fields_at (event_form n words.Reply) tokens >>= λ given. Ok (event.Reply given.0)
+event_by n words.Tick tokens = fields_at (event_form n words.Tick) tokens >>= λ given. Ok (event.Tick given.0 given.1.0)
+event_by n words.Peer tokens = fields_at (event_form n words.Peer) tokens >>= λ given. Ok (event.Peer given.0 given.1.0 given.1.1.0)
+event_by n words.Post tokens = fields_at (event_form n words.Post) tokens >>= λ given. Ok (event.Post given.0 given.1.0)
+event_by n words.Branch tokens = fields_at (event_form n words.Branch) tokens >>= λ given. Ok (event.Branch given.0 given.1.0)
+event_by n words.Route tokens = fields_at (event_form n words.Route) tokens >>= λ given. Ok (event.Route given.0 given.1.0)
+event_by n words.Echo tokens = fields_at (event_form n words.Echo) tokens >>= λ given. Ok (event.Echo given.0 given.1.0 given.1.1.0)
+event_by n words.Again tokens = fields_at (event_form n words.Again) tokens >>= λ given. Ok (event.Again given.0 given.1.0)
 event_by n words.Edit tokens = client_and_edit_at n tokens >>= λ given. Ok (event.Edited given.0 given.1)
 event_by n words.Forge tokens = client_and_edit_at n tokens >>= λ given. Ok (event.Forged given.0 given.1)
-event_by n words.Raw tokens = fields_at (client n ∷ bytes ∷ []) tokens >>= λ given. Ok (event.Raw given.0 given.1.0)
+event_by n words.Raw tokens = fields_at (event_form n words.Raw) tokens >>= λ given. Ok (event.Raw given.0 given.1.0)
 
 abbrev pub event_named : ℕ → Option EventWord → List (List ℕ) → Result Event Cause
 event_named n None tokens = Err causes.Word

@@ -3,3 +3,4 @@ pub mod Forms
 pub mod Parsing
 pub mod Scripts
 pub mod Refusals
+pub mod InRange

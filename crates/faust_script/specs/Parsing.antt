@@ -1,14 +1,18 @@
--- Reading a script line by line: from a stage and a line to the next stage, or the cause of the refusal.
+-- Reading a script line by line: from a stage and a line to the next stage, or the cause of the refusal. `Scripts` and
+-- `Refusals` say the same in the words of the grammar, and promises rest on those.
 use Rattle.std.specs.Prelude.{◌≡◌, ℕ, ◌+◌, nat_le, cond, List, [], ◌∷◌, ◌++◌, length, codes, Result, Ok, Err}
 use Rattle.std.specs.Str.{bytes_eq}
 use Rattle.faust_text.specs.declared.cause.Cause.{Cause}
 use Rattle.faust_text.specs.declared.cause.Cause.TheVariants as causes
 use Rattle.faust_text.specs.declared.error.LineError.{LineError}
 use Rattle.faust_text.specs.declared.error.LineError.TheVariants as line_errors
+use Rattle.faust_types.specs.declared.config.Config.{Config}
 use Rattle.faust_text.specs.declared.head.Head.TheVariants as heads
+use Rattle.faust_text.specs.declared.head.HeadForm.{HeadForm}
+use Rattle.faust_text.specs.declared.head.Title.TheVariants as titles
 use Rattle.faust_text.specs.declared.head.HeadStep.{HeadStep}
 use Rattle.faust_text.specs.declared.head.HeadStep.TheVariants as steps
-use Rattle.faust_text.specs.Fields.{Field, word, fields_at, ◌>>=◌}
+use Rattle.faust_text.specs.Fields.{◌>>=◌}
 use Rattle.faust_text.specs.Heads.{head_at}
 use Rattle.faust_text.specs.Lines.{TextLine, lines_of, whole_line}
 use Rattle.faust_text.specs.Tokens.{tokens_of}
@@ -20,14 +24,21 @@ use Rattle.faust_script.specs.declared.stage.Stage.{Stage}
 use Rattle.faust_script.specs.declared.stage.Stage.TheVariants as stages
 use Rattle.faust_script.specs.Forms.{event_at}
 
--- The first line.
-abbrev pub title_form : List Field
-title_form = word (codes "faust") ∷ word (codes "1") ∷ []
+-- The heads of scripts: `faust 1`, and at most 32 clients.
+abbrev pub script_form : HeadForm
+script_form = record { title = titles.Script; formats = 1; clients = 32 }
+
+-- Nothing was read: the first line of the head is due.
+abbrev pub start : Stage
+start = stages.Head heads.Title
+
+abbrev pub empty_script : Config → Script
+empty_script config = record { config = config; events = [] }
 
 -- After a line of the head; the line after the last of them is the first of the events.
 abbrev pub after_head : HeadStep → Stage
 after_head (steps.Next head) = stages.Head head
-after_head (steps.Whole config) = stages.Events (record { config = config; events = [] })
+after_head (steps.Whole format config) = stages.Events (empty_script config)
 
 abbrev pub with_event : Script → Event → Script
 with_event script event = record script { events = script.events ++ event ∷ [] }
@@ -35,8 +46,7 @@ with_event script event = record script { events = script.events ++ event ∷ []
 -- The next stage after the text of a line. Behind the head the line `end` ends the script, and any other is an
 -- event, of which there are at most 20,000.
 unfoldable pub text_at : Stage → List ℕ → Result Stage Cause
-text_at stages.Title text = fields_at title_form (tokens_of text) >>= λ given. Ok (stages.Head heads.Clients)
-text_at (stages.Head head) text = head_at head (tokens_of text) >>= λ step. Ok (after_head step)
+text_at (stages.Head head) text = head_at script_form head (tokens_of text) >>= λ step. Ok (after_head step)
 text_at (stages.Events script) text = cond (bytes_eq text (codes "end")) (Ok (stages.Ended script))
     (cond (nat_le 20000 (length script.events)) (Err causes.Events)
     (event_at script.config.clients (tokens_of text) >>= λ event. Ok (stages.Events (with_event script event))))
@@ -54,7 +64,6 @@ pub record Refusal : Type 0 where
 -- What lines make, the first of them numbered so: the script, or the first refused line. Lines that end before the
 -- script does are cut off at the line that would come next.
 abbrev pub finished : Stage → ℕ → Result Script Refusal
-finished stages.Title number = Err (record { line = number; cause = causes.CutOff })
 finished (stages.Head head) number = Err (record { line = number; cause = causes.CutOff })
 finished (stages.Events script) number = Err (record { line = number; cause = causes.CutOff })
 finished (stages.Ended script) number = Ok script
@@ -69,7 +78,7 @@ lines_from stage number (line ∷ lines) = and_then_lines number (λ next. lines
 
 -- The script of an input, or its first refused line with the cause.
 unfoldable pub parsed : List ℕ → Result Script Refusal
-parsed input = lines_from stages.Title 1 (lines_of input)
+parsed input = lines_from start 1 (lines_of input)
 
 abbrev pub refused_at : ℕ → LineError → ScriptError
 refused_at number (line_errors.Refused cause) = BadLine number cause

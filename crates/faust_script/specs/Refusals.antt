@@ -2,9 +2,8 @@
 use Rattle.std.specs.Prelude.{◌≡◌, ◌≢◌, ℕ, ◌+◌, ◌<◌, ◌≤◌, true, false, List, [], ◌∷◌, ◌++◌, length, take, drop, codes, Option, Some, None, Result, Ok, Err, ◌⊎◌}
 use Rattle.faust_text.specs.declared.cause.Cause.{Cause}
 use Rattle.faust_text.specs.declared.cause.Cause.TheVariants as causes
-use Rattle.faust_text.specs.declared.head.Head.TheVariants as heads
-use Rattle.faust_text.specs.Fields.{kind, value, bytes, ◌>>=◌}
-use Rattle.faust_text.specs.Heads.{clients_form, key_form, delta_form, dummy_form}
+use Rattle.faust_text.specs.Fields.{◌>>=◌}
+use Rattle.faust_text.specs.Heads.{due_form}
 use Rattle.faust_text.specs.Lines.{TextLine, lines_of}
 use Rattle.faust_text.specs.Spelled.{IsFault, IsFirstFault, SpellsField}
 use Rattle.faust_text.specs.Tokens.{tokens_of}
@@ -16,31 +15,16 @@ use Rattle.faust_script.specs.declared.stage.Stage.TheVariants as stages
 use Rattle.faust_script.specs.declared.word.EventWord.{EventWord}
 use Rattle.faust_script.specs.declared.word.EventWord.TheVariants as words
 use Rattle.faust_script.specs.declared.word.EditWord.{EditWord}
-use Rattle.faust_script.specs.declared.word.EditWord.TheVariants as edit_words
-use Rattle.faust_script.specs.Forms.{client, place, branch, moment, timestamp}
-use Rattle.faust_script.specs.Parsing.{Refusal, stage_at, title_form}
+use Rattle.faust_script.specs.Forms.{client, edit_form, event_form}
+use Rattle.faust_script.specs.Parsing.{Refusal, script_form, stage_at, start}
 use Rattle.faust_script.specs.Scripts.{IsScriptText}
+use Rattle.faust_script.specs.InRange.{IsScript}
 use Rattle.faust_script.specs.Words.{event_word, edit_word}
 
 -- Why the tokens behind an edit's word are refused: as its fields are.
 abbrev pub IsEditFaultOf : ℕ → Option EditWord → List (List ℕ) → Cause → Type 0
 IsEditFaultOf n None tokens cause = cause ≡ causes.Word
-IsEditFaultOf n (Some edit_words.C) tokens cause = IsFirstFault (client n ∷ []) tokens cause
-IsEditFaultOf n (Some edit_words.V) tokens cause = IsFirstFault (client n ∷ timestamp ∷ []) tokens cause
-IsEditFaultOf n (Some edit_words.M) tokens cause = IsFirstFault (client n ∷ []) tokens cause
-IsEditFaultOf n (Some edit_words.Ctag) tokens cause = IsFirstFault [] tokens cause
-IsEditFaultOf n (Some edit_words.Add) tokens cause = IsFirstFault (client n ∷ kind ∷ client n ∷ []) tokens cause
-IsEditFaultOf n (Some edit_words.DropTuple) tokens cause = IsFirstFault (place ∷ []) tokens cause
-IsEditFaultOf n (Some edit_words.Swap) tokens cause = IsFirstFault (place ∷ []) tokens cause
-IsEditFaultOf n (Some edit_words.Ltag) tokens cause = IsFirstFault (place ∷ []) tokens cause
-IsEditFaultOf n (Some edit_words.Proof) tokens cause = IsFirstFault (client n ∷ []) tokens cause
-IsEditFaultOf n (Some edit_words.Noproof) tokens cause = IsFirstFault (client n ∷ []) tokens cause
-IsEditFaultOf n (Some edit_words.Jv) tokens cause = IsFirstFault (client n ∷ timestamp ∷ []) tokens cause
-IsEditFaultOf n (Some edit_words.Jtag) tokens cause = IsFirstFault [] tokens cause
-IsEditFaultOf n (Some edit_words.T) tokens cause = IsFirstFault (timestamp ∷ []) tokens cause
-IsEditFaultOf n (Some edit_words.Value) tokens cause = IsFirstFault (value ∷ []) tokens cause
-IsEditFaultOf n (Some edit_words.Dtag) tokens cause = IsFirstFault [] tokens cause
-IsEditFaultOf n (Some edit_words.Unread) tokens cause = IsFirstFault [] tokens cause
+IsEditFaultOf n (Some word) tokens cause = IsFirstFault (edit_form n word) tokens cause
 
 abbrev pub IsEditFault : ℕ → List (List ℕ) → Cause → Type 0
 IsEditFault n [] cause = cause ≡ causes.Word
@@ -54,20 +38,9 @@ IsEditingFault n (token ∷ tokens) cause = IsFault (client n) token cause ⊎ (
 -- Why the tokens behind an event's word are refused.
 abbrev pub IsEventFaultOf : ℕ → Option EventWord → List (List ℕ) → Cause → Type 0
 IsEventFaultOf n None tokens cause = cause ≡ causes.Word
-IsEventFaultOf n (Some words.Write) tokens cause = IsFirstFault (client n ∷ value ∷ []) tokens cause
-IsEventFaultOf n (Some words.Read) tokens cause = IsFirstFault (client n ∷ client n ∷ []) tokens cause
-IsEventFaultOf n (Some words.Arrive) tokens cause = IsFirstFault (client n ∷ []) tokens cause
-IsEventFaultOf n (Some words.Reply) tokens cause = IsFirstFault (client n ∷ []) tokens cause
-IsEventFaultOf n (Some words.Tick) tokens cause = IsFirstFault (client n ∷ moment ∷ []) tokens cause
-IsEventFaultOf n (Some words.Peer) tokens cause = IsFirstFault (client n ∷ client n ∷ place ∷ []) tokens cause
-IsEventFaultOf n (Some words.Post) tokens cause = IsFirstFault (client n ∷ bytes ∷ []) tokens cause
-IsEventFaultOf n (Some words.Branch) tokens cause = IsFirstFault (branch ∷ branch ∷ []) tokens cause
-IsEventFaultOf n (Some words.Route) tokens cause = IsFirstFault (client n ∷ branch ∷ []) tokens cause
-IsEventFaultOf n (Some words.Echo) tokens cause = IsFirstFault (client n ∷ place ∷ branch ∷ []) tokens cause
-IsEventFaultOf n (Some words.Again) tokens cause = IsFirstFault (client n ∷ place ∷ []) tokens cause
 IsEventFaultOf n (Some words.Edit) tokens cause = IsEditingFault n tokens cause
 IsEventFaultOf n (Some words.Forge) tokens cause = IsEditingFault n tokens cause
-IsEventFaultOf n (Some words.Raw) tokens cause = IsFirstFault (client n ∷ bytes ∷ []) tokens cause
+IsEventFaultOf n (Some word) tokens cause = IsFirstFault (event_form n word) tokens cause
 
 abbrev pub IsEventFault : ℕ → List (List ℕ) → Cause → Type 0
 IsEventFault n [] cause = cause ≡ causes.Word
@@ -75,11 +48,7 @@ IsEventFault n (token ∷ tokens) cause = IsEventFaultOf n (event_word token) to
 
 -- Why the text of a line is refused, by what was read before it.
 abbrev pub IsTextFault : Stage → List ℕ → Cause → Type 0
-IsTextFault stages.Title text cause = IsFirstFault title_form (tokens_of text) cause
-IsTextFault (stages.Head heads.Clients) text cause = IsFirstFault clients_form (tokens_of text) cause
-IsTextFault (stages.Head (heads.Key n)) text cause = IsFirstFault key_form (tokens_of text) cause
-IsTextFault (stages.Head (heads.Delta n key)) text cause = IsFirstFault delta_form (tokens_of text) cause
-IsTextFault (stages.Head (heads.Dummy n key delta)) text cause = IsFirstFault dummy_form (tokens_of text) cause
+IsTextFault (stages.Head head) text cause = IsFirstFault (due_form script_form head) (tokens_of text) cause
 IsTextFault (stages.Events script) text cause = (text ≢ codes "end") × (((cause ≡ causes.Events) × (20000 ≤ length script.events)) ⊎ ((length script.events < 20000) × IsEventFault script.config.clients (tokens_of text) cause))
 IsTextFault (stages.Ended script) text cause = cause ≡ causes.AfterEnd
 
@@ -89,7 +58,6 @@ IsLineFault stage line cause = ((cause ≡ causes.TooLong) × (40000 < length li
 
 -- The input ends before the script does, or the next line is refused.
 abbrev pub IsNotEnded : Stage → Type 0
-IsNotEnded stages.Title = Unit {0}
 IsNotEnded (stages.Head head) = Unit {0}
 IsNotEnded (stages.Events script) = Unit {0}
 IsNotEnded (stages.Ended script) = ⊥
@@ -109,7 +77,7 @@ pub record IsRefused (input : List ℕ) (refusal : Refusal) : Type 0 where
   pub line_is : refusal.line ≡ before + 1
   pub within : before ≤ length (lines_of input)
   pub stage : Stage
-  pub read_before : reached stages.Title (take before (lines_of input)) ≡ Ok stage
+  pub read_before : reached start (take before (lines_of input)) ≡ Ok stage
   pub why : IsRefusedThere stage (drop before (lines_of input)) refusal.cause
 
 -- Lines with which a script's text begins.
@@ -120,8 +88,9 @@ pub record CanGoOn (front : List TextLine) : Type 0 where
   pub is_text : IsScriptText script input
   pub lines_are : lines_of input ≡ front ++ more
 
--- What parsing answers, in these words: the script whose text the input is, or the refused line.
+-- What parsing answers, in these words: the script whose text the input is, with all its values in range, or the
+-- refused line.
 abbrev pub IsAnswer : List ℕ → Result Script ScriptError → Type 0
-IsAnswer input (Ok script) = IsScriptText script input
+IsAnswer input (Ok script) = IsScriptText script input × IsScript script
 IsAnswer input (Err (errors.BadLine line cause)) = IsRefused input (record { line = line; cause = cause })
 IsAnswer input (Err errors.OutOfMemory) = Unit {0}

@@ -3,7 +3,8 @@
 //
 // `specs/Forms.antt` comes first: each event and each edit is a word and its fields. `specs/Parsing.antt` has the
 // machine over lines, whose fold is `parsed`. `specs/Scripts.antt` says in other words which bytes are a script's text,
-// and `specs/Refusals.antt` which line is refused and why. `specs/Words.antt` has the words.
+// `specs/Refusals.antt` which line is refused and why, and `specs/InRange.antt` which scripts are in range, as all that
+// are read are. `specs/Words.antt` has the words.
 //
 // What an event does when it is played is not said here.
 #![tactic(auto)]
@@ -21,7 +22,7 @@ mod word;
 pub use edit::Edit;
 pub use error::ScriptError;
 pub use event::Event;
-pub use laws::{first_refused_lines, scripts_are_their_texts};
+pub use laws::{first_refused_lines, scripts_are_in_range, scripts_are_their_texts};
 pub use line::read_event;
 pub use parser::parse;
 pub use script::{Events, MAX_EVENTS, Script};

@@ -43,14 +43,8 @@ fn event_by(
     ensures { Gives (λ event. event) result (event_by clients word cursor.old) }
 {
     match word {
-        EventWord::Write => {
-            let (client, value) = client_and_value(alloc, cursor, clients)?;
-            Ok(Event::Write { client, value })
-        }
-        EventWord::Read => {
-            let (client, register) = two_clients(cursor, clients)?;
-            Ok(Event::Read { client, register })
-        }
+        EventWord::Write => write(alloc, cursor, clients),
+        EventWord::Read => read(cursor, clients),
         EventWord::Arrive => {
             let client = one_client(cursor, clients)?;
             Ok(Event::Arrive { client })
@@ -59,46 +53,19 @@ fn event_by(
             let client = one_client(cursor, clients)?;
             Ok(Event::Reply { client })
         }
-        EventWord::Tick => {
-            let (client, moment) = client_and_number(cursor, clients, 0, MAX_TIMESTAMP)?;
-            Ok(Event::Tick { client, moment })
-        }
+        EventWord::Tick => tick(cursor, clients),
         EventWord::Peer => peer(cursor, clients),
-        EventWord::Post => {
-            let (receiver, bytes) = client_and_bytes(alloc, cursor, clients)?;
-            Ok(Event::Post { receiver, bytes })
-        }
+        EventWord::Post => post(alloc, cursor, clients),
         EventWord::Branch => {
             let (from, to) = two_branches(cursor)?;
             Ok(Event::Branch { from, to })
         }
-        EventWord::Route => {
-            let (client, to) = client_and_number(cursor, clients, 0, MAX_BRANCH)?;
-            Ok(Event::Route {
-                client,
-                to: to as usize,
-            })
-        }
+        EventWord::Route => route(cursor, clients),
         EventWord::Echo => echo(cursor, clients),
-        EventWord::Again => {
-            let (client, k) = client_and_number(cursor, clients, 1, MAX_PLACE)?;
-            Ok(Event::Again {
-                client,
-                k: k as usize,
-            })
-        }
-        EventWord::Edit => {
-            let (client, edit) = client_and_edit(alloc, cursor, clients)?;
-            Ok(Event::Edited { client, edit })
-        }
-        EventWord::Forge => {
-            let (client, edit) = client_and_edit(alloc, cursor, clients)?;
-            Ok(Event::Forged { client, edit })
-        }
-        EventWord::Raw => {
-            let (client, bytes) = client_and_bytes(alloc, cursor, clients)?;
-            Ok(Event::Raw { client, bytes })
-        }
+        EventWord::Again => again(cursor, clients),
+        EventWord::Edit => edited(alloc, cursor, clients),
+        EventWord::Forge => forged(alloc, cursor, clients),
+        EventWord::Raw => raw(alloc, cursor, clients),
     }
 }
 
@@ -108,15 +75,6 @@ fn one_client(cursor: &mut Cursor, clients: u8) -> Result<u8, LineError>
     let client = cursor.client(clients)?;
     cursor.end()?;
     Ok(client)
-}
-
-fn two_clients(cursor: &mut Cursor, clients: u8) -> Result<(u8, u8), LineError>
-    ensures { Gives (λ x. (x.0, (x.1, tt))) result (fields_at (client clients ∷ client clients ∷ []) cursor.old) }
-{
-    let first = cursor.client(clients)?;
-    let second = cursor.client(clients)?;
-    cursor.end()?;
-    Ok((first, second))
 }
 
 fn client_and_number(
@@ -133,19 +91,6 @@ fn client_and_number(
     Ok((client, number))
 }
 
-fn client_and_value(
-    alloc: Global,
-    cursor: &mut Cursor,
-    clients: u8,
-) -> Result<(u8, Bytes), LineError>
-    ensures { Gives (λ x. (x.0, (x.1, tt))) result (fields_at (client clients ∷ value ∷ []) cursor.old) }
-{
-    let client = cursor.client(clients)?;
-    let value = cursor.value(alloc)?;
-    cursor.end()?;
-    Ok((client, value))
-}
-
 fn client_and_bytes(
     alloc: Global,
     cursor: &mut Cursor,
@@ -157,6 +102,34 @@ fn client_and_bytes(
     let bytes = cursor.bytes(alloc)?;
     cursor.end()?;
     Ok((client, bytes))
+}
+
+#[tactic(auto, unfolding(crate::specs::Forms::event_by))]
+fn write(alloc: Global, cursor: &mut Cursor, clients: u8) -> Result<Event, LineError>
+    ensures { Gives (λ event. event) result (event_by clients EventWord.Write cursor.old) }
+{
+    let client = cursor.client(clients)?;
+    let value = cursor.value(alloc)?;
+    cursor.end()?;
+    Ok(Event::Write { client, value })
+}
+
+#[tactic(auto, unfolding(crate::specs::Forms::event_by))]
+fn read(cursor: &mut Cursor, clients: u8) -> Result<Event, LineError>
+    ensures { Gives (λ event. event) result (event_by clients EventWord.Read cursor.old) }
+{
+    let client = cursor.client(clients)?;
+    let register = cursor.client(clients)?;
+    cursor.end()?;
+    Ok(Event::Read { client, register })
+}
+
+#[tactic(auto, unfolding(crate::specs::Forms::event_by))]
+fn tick(cursor: &mut Cursor, clients: u8) -> Result<Event, LineError>
+    ensures { Gives (λ event. event) result (event_by clients EventWord.Tick cursor.old) }
+{
+    let (client, moment) = client_and_number(cursor, clients, 0, MAX_TIMESTAMP)?;
+    Ok(Event::Tick { client, moment })
 }
 
 #[tactic(auto, unfolding(crate::specs::Forms::event_by))]
@@ -174,6 +147,14 @@ fn peer(cursor: &mut Cursor, clients: u8) -> Result<Event, LineError>
     })
 }
 
+#[tactic(auto, unfolding(crate::specs::Forms::event_by))]
+fn post(alloc: Global, cursor: &mut Cursor, clients: u8) -> Result<Event, LineError>
+    ensures { Gives (λ event. event) result (event_by clients EventWord.Post cursor.old) }
+{
+    let (receiver, bytes) = client_and_bytes(alloc, cursor, clients)?;
+    Ok(Event::Post { receiver, bytes })
+}
+
 fn two_branches(cursor: &mut Cursor) -> Result<(usize, usize), LineError>
     ensures { Gives (λ x. (x.0, (x.1, tt))) result (fields_at (branch ∷ branch ∷ []) cursor.old) }
 {
@@ -181,6 +162,17 @@ fn two_branches(cursor: &mut Cursor) -> Result<(usize, usize), LineError>
     let second = cursor.number(0, MAX_BRANCH)?;
     cursor.end()?;
     Ok((first as usize, second as usize))
+}
+
+#[tactic(auto, unfolding(crate::specs::Forms::event_by))]
+fn route(cursor: &mut Cursor, clients: u8) -> Result<Event, LineError>
+    ensures { Gives (λ event. event) result (event_by clients EventWord.Route cursor.old) }
+{
+    let (client, to) = client_and_number(cursor, clients, 0, MAX_BRANCH)?;
+    Ok(Event::Route {
+        client,
+        to: to as usize,
+    })
 }
 
 #[tactic(auto, unfolding(crate::specs::Forms::event_by))]
@@ -196,6 +188,41 @@ fn echo(cursor: &mut Cursor, clients: u8) -> Result<Event, LineError>
         k: k as usize,
         to: to as usize,
     })
+}
+
+#[tactic(auto, unfolding(crate::specs::Forms::event_by))]
+fn again(cursor: &mut Cursor, clients: u8) -> Result<Event, LineError>
+    ensures { Gives (λ event. event) result (event_by clients EventWord.Again cursor.old) }
+{
+    let (client, k) = client_and_number(cursor, clients, 1, MAX_PLACE)?;
+    Ok(Event::Again {
+        client,
+        k: k as usize,
+    })
+}
+
+#[tactic(auto, unfolding(crate::specs::Forms::event_by))]
+fn raw(alloc: Global, cursor: &mut Cursor, clients: u8) -> Result<Event, LineError>
+    ensures { Gives (λ event. event) result (event_by clients EventWord.Raw cursor.old) }
+{
+    let (client, bytes) = client_and_bytes(alloc, cursor, clients)?;
+    Ok(Event::Raw { client, bytes })
+}
+
+#[tactic(auto, unfolding(crate::specs::Forms::event_by))]
+fn edited(alloc: Global, cursor: &mut Cursor, clients: u8) -> Result<Event, LineError>
+    ensures { Gives (λ event. event) result (event_by clients EventWord.Edit cursor.old) }
+{
+    let (client, edit) = client_and_edit(alloc, cursor, clients)?;
+    Ok(Event::Edited { client, edit })
+}
+
+#[tactic(auto, unfolding(crate::specs::Forms::event_by))]
+fn forged(alloc: Global, cursor: &mut Cursor, clients: u8) -> Result<Event, LineError>
+    ensures { Gives (λ event. event) result (event_by clients EventWord.Forge cursor.old) }
+{
+    let (client, edit) = client_and_edit(alloc, cursor, clients)?;
+    Ok(Event::Forged { client, edit })
 }
 
 fn client_and_edit(alloc: Global, cursor: &mut Cursor, clients: u8) -> Result<(u8, Edit), LineError>
@@ -230,10 +257,7 @@ fn edit_by(
 {
     match word {
         EditWord::C => Ok(Edit::C(one_client(cursor, clients)?)),
-        EditWord::V => {
-            let (client, t) = client_and_number(cursor, clients, 1, MAX_TIMESTAMP)?;
-            Ok(Edit::V(client, t))
-        }
+        EditWord::V => v(cursor, clients),
         EditWord::M => Ok(Edit::M(one_client(cursor, clients)?)),
         EditWord::Ctag => {
             cursor.end()?;
@@ -245,10 +269,7 @@ fn edit_by(
         EditWord::Ltag => Ok(Edit::Ltag(one_place(cursor)?)),
         EditWord::Proof => Ok(Edit::Proof(one_client(cursor, clients)?)),
         EditWord::Noproof => Ok(Edit::Noproof(one_client(cursor, clients)?)),
-        EditWord::Jv => {
-            let (client, t) = client_and_number(cursor, clients, 1, MAX_TIMESTAMP)?;
-            Ok(Edit::Jv(client, t))
-        }
+        EditWord::Jv => jv(cursor, clients),
         EditWord::Jtag => {
             cursor.end()?;
             Ok(Edit::Jtag)
@@ -264,6 +285,22 @@ fn edit_by(
             Ok(Edit::Unread)
         }
     }
+}
+
+#[tactic(auto, unfolding(crate::specs::Forms::edit_by))]
+fn v(cursor: &mut Cursor, clients: u8) -> Result<Edit, LineError>
+    ensures { Gives (λ edit. edit) result (edit_by clients EditWord.V cursor.old) }
+{
+    let (client, t) = client_and_number(cursor, clients, 1, MAX_TIMESTAMP)?;
+    Ok(Edit::V(client, t))
+}
+
+#[tactic(auto, unfolding(crate::specs::Forms::edit_by))]
+fn jv(cursor: &mut Cursor, clients: u8) -> Result<Edit, LineError>
+    ensures { Gives (λ edit. edit) result (edit_by clients EditWord.Jv cursor.old) }
+{
+    let (client, t) = client_and_number(cursor, clients, 1, MAX_TIMESTAMP)?;
+    Ok(Edit::Jv(client, t))
 }
 
 fn one_place(cursor: &mut Cursor) -> Result<usize, LineError>

@@ -8,8 +8,8 @@ use crate::stage::Stage;
 use faust_text::{Cause, LineError, line_at};
 use std::alloc::Global;
 
-/// The script that the bytes are, or the first line that the grammar refuses with its cause. It stops there, and
-/// takes time in proportion to the bytes.
+/// The script that the bytes are, with all its values in range, or the first line that the grammar refuses with its
+/// cause. It stops there, and takes time in proportion to the bytes.
 pub fn parse(alloc: Global, input: &[u8]) -> Result<Script, ScriptError>
     ensures answer { IsAnswer input.now result }
     ensures exact { Parses result (parsed input.now) }
@@ -20,7 +20,7 @@ pub fn parse(alloc: Global, input: &[u8]) -> Result<Script, ScriptError>
 fn script_of(alloc: Global, input: &[u8]) -> Result<Script, ScriptError>
     ensures { Parses result (parsed input.now) }
 {
-    let mut stage = Stage::Title;
+    let mut stage = Stage::start();
     let mut from = 0;
     let mut number: u64 = 1;
     while let Some(line) = line_at(input, from) {
@@ -39,7 +39,7 @@ fn finish(stage: Stage, next_line: u64) -> Result<Script, ScriptError>
 {
     match stage {
         Stage::Ended(script) => Ok(script),
-        Stage::Title | Stage::Head(_) | Stage::Events(_) => Err(ScriptError::BadLine {
+        Stage::Head(_) | Stage::Events(_) => Err(ScriptError::BadLine {
             line: next_line,
             cause: Cause::CutOff,
         }),

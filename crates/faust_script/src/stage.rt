@@ -1,21 +1,25 @@
-ghost use Rattle.std.specs.Prelude.{◌≤◌, length};
-ghost use Rattle.faust_text.specs.Fields.{Gives, fields_at};
+ghost use Rattle.std.specs.Prelude.{◌≡◌, ◌≤◌, length};
+ghost use Rattle.faust_text.specs.Fields.{Gives};
 ghost use Rattle.faust_text.specs.Lines.{line_in};
-ghost use Rattle.faust_text.specs.Tokens.{tokens_of};
-ghost use Rattle.faust_script.specs.Parsing.{stage_at, text_at, title_form};
+ghost use Rattle.faust_script.specs.Parsing.{stage_at, start, text_at};
 
 use crate::line::read_event;
 use crate::script::{MAX_EVENTS, Script};
-use faust_text::{Cause, Cursor, Head, HeadStep, Line, LineError, whole_line};
-use faust_types::Sequence;
+use faust_text::{Cause, Head, HeadForm, HeadStep, Line, LineError, Title, whole_line};
+use faust_types::{MAX_CLIENTS, Sequence};
 use std::alloc::Global;
+
+/// Scripts are of format 1, for at most 32 clients.
+const SCRIPT_HEAD: HeadForm = HeadForm {
+    title: Title::Script,
+    formats: 1,
+    clients: MAX_CLIENTS,
+};
 
 /// How much of a script was read.
 #[derive(Debug, Drop)]
 pub enum Stage {
-    /// Nothing: the first line is due.
-    Title,
-    /// The first line and a part of the head.
+    /// A part of the head.
     Head(Head),
     /// The head and these events: an event or `end` is due.
     Events(Script),
@@ -24,6 +28,13 @@ pub enum Stage {
 }
 
 impl Stage {
+    /// Nothing was read: the first line of the head is due.
+    pub fn start() -> Stage
+        ensures { result ≡ start }
+    {
+        Stage::Head(Head::Title)
+    }
+
     /// Reads the next line of the input. It is refused where it is too long, and else where it is cut off, and else
     /// as its text is.
     #[tactic(auto, unfolding(crate::specs::Parsing::stage_at))]
@@ -45,13 +56,9 @@ impl Stage {
         ensures { Gives (λ stage. stage) result (text_at self text.now) }
     {
         match self {
-            Stage::Title => {
-                title(text)?;
-                Ok(Stage::Head(Head::Clients))
-            }
-            Stage::Head(head) => match head.read(alloc, text)? {
+            Stage::Head(head) => match head.read(alloc, SCRIPT_HEAD, text)? {
                 HeadStep::Next(head) => Ok(Stage::Head(head)),
-                HeadStep::Whole(config) => Ok(Stage::Events(Script {
+                HeadStep::Whole { config, .. } => Ok(Stage::Events(Script {
                     config,
                     events: Sequence::new(alloc),
                 })),
@@ -60,15 +67,6 @@ impl Stage {
             Stage::Ended(_) => Err(LineError::Refused(Cause::AfterEnd)),
         }
     }
-}
-
-fn title(text: &[u8]) -> Result<(), LineError>
-    ensures { Gives (λ _. (tt, (tt, tt))) result (fields_at title_form (tokens_of text.now)) }
-{
-    let mut cursor = Cursor::new(text);
-    cursor.word(b"faust")?;
-    cursor.word(b"1")?;
-    cursor.end()
 }
 
 #[tactic(auto, unfolding(crate::specs::Parsing::text_at))]

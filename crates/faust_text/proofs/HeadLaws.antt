@@ -97,7 +97,7 @@ first_line form head (line ∷ behind) format config found =
       rest = ap (λ next. head_read form next behind) read.next_is ∙ step.2;
     }
 
-nothing_behind : (form : HeadForm) (made_format : ℕ) (made : Config) (lines : List (List ℕ)) (format : ℕ) (config : Config)
+pub nothing_behind : (form : HeadForm) (made_format : ℕ) (made : Config) (lines : List (List ℕ)) (format : ℕ) (config : Config)
     → head_read form (Whole made_format made) lines ≡ Ok (Whole format config)
     → (lines ≡ []) × (Whole made_format made ≡ Whole format config)
 nothing_behind form made_format made [] format config found = (refl, ok_same (Whole made_format made) (Whole format config) found)

@@ -1,12 +1,13 @@
-use Rattle.std.proofs.Common.{◌≡◌, refl, sym, ◌∙◌, subst, arith, Result, Err}
+use Rattle.std.proofs.Common.{◌≡◌, ap, sym, ◌∙◌, subst, arith, Result, Err}
+use Rattle.faust_text.specs.Lines.{lines_of}
 use Rattle.faust_script.specs.declared.script.Script.{Script}
-use Rattle.faust_script.specs.Parsing.{Parses, Refusal, finished, parsed}
+use Rattle.faust_script.specs.Parsing.{Parses, Refusal, finished, lines_from, parsed}
 use Rattle.faust_script.proofs.ParseLaws.{line_taken, line_refused, lines_ended}
 use Rattle.faust_script.proofs.parser.script_of.Goals as goal
 
 pub loop-line-init : goal.loop-line-init
 unfolding parsed
-loop-line-init c = record { counted = omega arith; within = omega arith; so_far = refl }
+loop-line-init c = record { counted = omega arith; within = omega arith; so_far = ap (λ st. lines_from st 1 (lines_of c.args.input.now)) c.start-stage.ensures }
 
 pub returns-in-Err : goal.returns-in-Err
 returns-in-Err c =
