@@ -28,7 +28,7 @@ use Rattle.faust_lists.proofs.Fronts.{count-upto, upto-own, upto-stable, upto-ta
 use Rattle.faust_honest.specs.World.{World, IsCommitOf}
 use Rattle.faust_honest.specs.Honest.{turn_of, pending_of, IsHonest, IsHeld}
 use Rattle.faust_honest.proofs.Pending.{behind-pending, without-pending}
-use Rattle.faust_honest.proofs.Held.{held-along, turn_of-busy}
+use Rattle.faust_honest.proofs.Held.{held-along, turn_of-busy, turn_with}
 use Rattle.faust_honest.proofs.Standing.{counted, settled-tail, reached, once, settled-counts, greatest-version}
 
 -- the timestamps of a longer history are at least those of a front
@@ -93,11 +93,12 @@ module _ (n : ℕ) (world : World) (st : State) (arrived handled : List ℕ) (h 
         least = omega arith;
       }
 
-  turn-after : (let turn : Turn = record (turn_at st i) { uncommitted = false } in turn) ≡ turn_of (count i arrived) (count i arrived)
+  turn-after : turn_with (turn_at st i).last false ≡ turn_of (count i arrived) (count i arrived)
   turn-after =
-      let never : (turn_of (count i arrived) (count i arrived)).uncommitted ≡ false = le-ltb (count i arrived) (count i arrived) (omega arith) in
-      ap (λ (t : Turn). let turn : Turn = record t { uncommitted = false } in turn) own.turn_is
-      ∙ ap (λ (b : Bool). let turn : Turn = record { last = count i arrived; uncommitted = b } in turn) (sym never)
+      let never : (turn_of (count i arrived) (count i arrived)).uncommitted ≡ false = le-ltb (count i arrived) (count i arrived)
+      (omega arith) in
+      ap (λ (t : Turn). turn_with t.last false) own.turn_is
+      ∙ ap (turn_with (count i arrived)) (sym never)
 
   -- whatever becomes of c and of the list, each client is held right after both steps
   module _ (c : ℕ) (pending : List Tuple) where
@@ -116,8 +117,10 @@ module _ (n : ℕ) (world : World) (st : State) (arrived handled : List ℕ) (h 
           (count i arrived) (count i arrived) (count i arrived) (count i (i ∷ handled))
           (upto i (count i arrived) arrived) (upto i (count i (i ∷ handled)) arrived)
           (get_or-set_same st.versions (i - 1) known (unmade 0) (omega (arith, client.from_one, client.to_n, h.in_range.versions_paired)))
-          (get_or-set_same st.proofs (i - 1) (Some m.proof_tag) None (omega (arith, client.from_one, client.to_n, h.in_range.proofs_paired)))
-          (get_or-set_same st.turns (i - 1) _ first_turn (omega (arith, client.from_one, client.to_n, h.in_range.turns_paired)) ∙ turn-after)
+          (get_or-set_same st.proofs (i - 1) (Some m.proof_tag) None
+          (omega (arith, client.from_one, client.to_n, h.in_range.proofs_paired)))
+          (get_or-set_same st.turns (i - 1) _ first_turn (omega (arith, client.from_one, client.to_n, h.in_range.turns_paired))
+          ∙ turn-after)
           refl refl commits (ap (λ (t : ℕ). upto i t arrived) commits) committed-held)
       | inr ne ↦
           let apart : k - 1 ≡ i - 1 → ⊥ = λ e. ne (omega (arith, e, within.from_one, client.from_one)) in
@@ -174,7 +177,8 @@ module _ (n : ℕ) (world : World) (st : State) (arrived handled : List ℕ) (h 
     unfolding state before
     led-honest =
         let left : behind i st.pending ≡ pending_of world (i ∷ before) o.newer =
-        ap (behind i) (h.pending ∙ ap (pending_of world h.settled) o.split) ∙ behind-pending world h.settled o.newer o.older i o.none_older in
+        ap (behind i) (h.pending ∙ ap (pending_of world h.settled) o.split)
+        ∙ behind-pending world h.settled o.newer o.older i o.none_older in
         record {
           in_range = IsStateFor-settled n (record st { c = i; pending = behind i st.pending }) i m
               (IsStateFor-led n st i h.in_range client) client message;
@@ -186,7 +190,8 @@ module _ (n : ℕ) (world : World) (st : State) (arrived handled : List ℕ) (h 
           covers = λ k c. elim (cases_eq k i) [
             | inl e ↦
                 subst (λ (z : ℕ). IsTail (upto z (count z (i ∷ handled)) arrived) (i ∷ before)) (sym e)
-                (subst (λ (z : List ℕ). IsTail z (i ∷ before)) (sym (ap (λ (t : ℕ). upto i t arrived) commits ∙ history)) (tail-refl (i ∷ before)))
+                (subst (λ (z : List ℕ). IsTail z (i ∷ before)) (sym (ap (λ (t : ℕ). upto i t arrived) commits ∙ history))
+                (tail-refl (i ∷ before)))
             | inr ne ↦
                 subst (λ (t : ℕ). IsTail (upto k t arrived) (i ∷ before)) (sym (count-other k i handled (λ e. ne (sym e))))
                 (tail-trans (upto k (count k handled) arrived) h.settled (i ∷ before) (h.covers k c) settled-front)
@@ -219,7 +224,8 @@ module _ (n : ℕ) (world : World) (st : State) (arrived handled : List ℕ) (h 
 
     other : st.c ≡ i → ⊥
     other e =
-        let leads : h.settled ≡ upto i (count i handled) arrived = subst (λ (z : ℕ). h.settled ≡ upto z (count z handled) arrived) e h.leads in
+        let leads : h.settled ≡ upto i (count i handled) arrived = subst
+        (λ (z : ℕ). h.settled ≡ upto z (count z handled) arrived) e h.leads in
         let few : count i h.settled ≡ count i handled =
         ap (λ (z : List ℕ). count i z) leads ∙ count-upto i (count i handled) arrived own.most in
         absurd (omega (arith, few, all-settled, busy))

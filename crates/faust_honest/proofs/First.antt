@@ -42,7 +42,8 @@ first-honest n world count =
       covers = λ k c. refl;
       pending = refl;
       held = λ k c.
-          held-along n world k (unmade n) (version_at (first_state n) k) None (proof_at (first_state n) k) first_turn (turn_at (first_state n) k)
+          held-along n world k (unmade n) (version_at (first_state n) k) None (proof_at (first_state n) k) first_turn
+          (turn_at (first_state n) k)
           None (memory_at (first_state n) k) 0 0 0 0 [] []
           (get_or-replicate n (k - 1) (unmade n) (unmade 0) (within k c))
           (get_or-replicate n (k - 1) None None (within k c))

@@ -36,8 +36,8 @@ turn_of-busy submits commits lt = lt-ltb commits submits lt
 pub turn_of-free : (submits commits : ℕ) → submits ≤ commits → (turn_of submits commits).uncommitted ≡ false
 turn_of-free submits commits le = le-ltb commits submits le
 
-pub turn-same : (last : ℕ) (a b : Bool) → a ≡ b → (let x : Turn = record { last = last; uncommitted = a } in x) ≡ record { last = last; uncommitted = b }
-turn-same last a b e = ap (λ (z : Bool). let x : Turn = record { last = last; uncommitted = z } in x) e
+abbrev pub turn_with : ℕ → Bool → Turn
+turn_with last uncommitted = record { last = last; uncommitted = uncommitted }
 
 -- what stands in memory
 pub value_of-mem : (world : World) (k t : ℕ) → value_of (mem_of world k t) ≡ written world k t

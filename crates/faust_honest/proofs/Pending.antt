@@ -34,7 +34,8 @@ clients_after-append w [] ys = refl
 clients_after-append w (x ∷ xs) ys = clients_after-append (x.client ∷ w) xs ys
 
 -- their clients put behind the settled part make the history again
-pub clients_after-pending : (world : World) (settled after : List ℕ) → clients_after settled (pending_of world settled after) ≡ after ++ settled
+pub clients_after-pending : (world : World) (settled after : List ℕ)
+    → clients_after settled (pending_of world settled after) ≡ after ++ settled
 clients_after-pending world settled [] = refl
 clients_after-pending world settled (k ∷ after) =
     let tuple : Tuple = tuple_at world k (suc (count k (after ++ settled))) in
@@ -43,7 +44,8 @@ clients_after-pending world settled (k ∷ after) =
 
 -- the tuples before and behind that of one operation
 pub pending_of-split : (world : World) (settled newer older : List ℕ) (i : ℕ) → pending_of world settled (newer ++ i ∷ older)
-    ≡ pending_of world settled older ++ tuple_at world i (suc (count i (older ++ settled))) ∷ pending_of world (i ∷ (older ++ settled)) newer
+    ≡ pending_of world settled older ++ tuple_at world i (suc (count i (older ++ settled))) ∷ pending_of world
+    (i ∷ (older ++ settled)) newer
 pending_of-split world settled [] older i = refl
 pending_of-split world settled (x ∷ newer) older i =
     let before : List Tuple = pending_of world settled older in

@@ -83,7 +83,15 @@ module _ (n : ℕ) (world : World) (st : State) (arrived handled : List ℕ) (h 
     next-below : count k (z ++ h.settled) + 1 < 2 ^ 40
     next-below =
         let last : (turn_at st k).last ≡ count k arrived = ap (λ (t : Turn). t.last) (h.held k c).turn_is in
-        omega (arith, last, h.in_range.turns_below k c, counted n world st arrived handled h k, stands, count-append k z h.settled, alone-there)
+        omega (
+          arith,
+          last,
+          h.in_range.turns_below k c,
+          counted n world st arrived handled h k,
+          stands,
+          count-append k z h.settled,
+          alone-there,
+        )
 
     tuple-passed : IsTuplePassed world.key i st.proofs here (tuple_at world k (suc (count k (z ++ h.settled))))
     tuple-passed =
@@ -93,7 +101,8 @@ module _ (n : ℕ) (world : World) (st : State) (arrived handled : List ℕ) (h 
         let right : is_same (tag t) (tag t) ≡ true = (is_same_tells (tag t) (tag t)).1 refl in
         record {
           of_another = of_another;
-          proven = subst (λ (d : Option (List ℕ)). is_digest_proven world.key k d (proof_at st k) ≡ true) (sym same-digest) (h.held k c).proven;
+          proven = subst (λ (d : Option (List ℕ)). is_digest_proven world.key k d (proof_at st k) ≡ true) (sym same-digest)
+              (h.held k c).proven;
           submitted = and_from _ _
               (lt-ltb (timestamp_at here.version k + 1) (2 ^ 40) (omega (arith, number, next-below)))
               (subst (λ (u : ℕ). is_same (tag t) (tag u) ≡ true) number right);
@@ -154,7 +163,8 @@ module _ (n : ℕ) (world : World) (st : State) (arrived handled : List ℕ) (h 
   recently a b low high = elim (cases_lt a b) [ inl lt ↦ inr (omega (arith, lt)) | inr ge ↦ inl (omega (arith, ge)) ]
 
   -- the read part passes
-  part-passed : (kind : Kind) (j : ℕ) → IsClient n j → IfSome (read_part now kind j) (IsPartPassed world.key (greatest st).version (next_of i reply))
+  part-passed : (kind : Kind) (j : ℕ) → IsClient n j
+      → IfSome (read_part now kind j) (IsPartPassed world.key (greatest st).version (next_of i reply))
   part-passed Write j c = tt
   part-passed Read j c =
       let held = h.held j c in
@@ -165,7 +175,8 @@ module _ (n : ℕ) (world : World) (st : State) (arrived handled : List ℕ) (h 
       let bounds = near j c in
       record {
         known_right = held.right;
-        mem_right = subst (λ (x : Option Mem). is_mem_right world.key j x ≡ true) (sym mem) (mem_of-right world j (count j (i ∷ arrived)));
+        mem_right = subst (λ (x : Option Mem). is_mem_right world.key j x ≡ true) (sym mem)
+            (mem_of-right world j (count j (i ∷ arrived)));
         latest = time ∙ sym (next-version.timestamps j c);
         at_most = at_most-tail n (version_at st j).version (greatest st).version (upto j (count j handled) arrived) h.settled held.version
             (greatest-version n world st arrived handled h) (h.covers j c);

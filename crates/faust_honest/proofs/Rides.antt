@@ -23,7 +23,8 @@ served-well n world st arrived handled i h client message free = record {
   accepted = replies.accepted n world st arrived handled h i client message free;
 }
 
-module _ (n : ℕ) (world : World) (st : State) (arrived handled : List ℕ) (i : ℕ) (commit : Commit) (h : IsHonest n world st arrived handled)
+module _ (n : ℕ) (world : World) (st : State) (arrived handled : List ℕ) (i : ℕ) (commit : Commit)
+    (h : IsHonest n world st arrived handled)
     (client : IsClient n i) (message : IsSubmitFor n (submit_of world i (suc (count i arrived)) (Some commit)))
     (busy : count i arrived ≡ suc (count i handled)) (is : IsCommitOf n world i (upto i (count i arrived) arrived) commit) where
   after : IsHonest n world (settled (advanced st i commit.version) i commit) arrived (i ∷ handled)
@@ -49,11 +50,13 @@ module _ (n : ℕ) (world : World) (st : State) (arrived handled : List ℕ) (i 
       served-well n world (settled (advanced st i commit.version) i commit) arrived (i ∷ handled) i after client alone-message free
 
 -- the rows, whole
-pub committed-well : (n : ℕ) (world : World) (st : State) (arrived handled : List ℕ) (i : ℕ) (m : Commit) → IsHonest n world st arrived handled
+pub committed-well : (n : ℕ) (world : World) (st : State) (arrived handled : List ℕ) (i : ℕ) (m : Commit)
+    → IsHonest n world st arrived handled
     → IsClient n i → IsCommitFor n m → count i arrived ≡ suc (count i handled) → IsCommitOf n world i (upto i (count i arrived) arrived) m
     → IsOkAnd (committed st i m) (λ after. IsHonest n world after arrived (i ∷ handled))
 committed-well n world st arrived handled i m h client message busy is =
-    let Well : Result State OutOfTurn → Type 0 = λ (row : Result State OutOfTurn). IsOkAnd row (λ now. IsHonest n world now arrived (i ∷ handled)) in
+    let Well : Result State OutOfTurn → Type 0 = λ (row : Result State OutOfTurn). IsOkAnd row
+    (λ now. IsHonest n world now arrived (i ∷ handled)) in
     subst Well (sym (commits.taken n world st arrived handled h i m client message busy is))
     (commits.honest n world st arrived handled h i m client message busy is)
 
@@ -65,7 +68,8 @@ submitted-well n world st arrived handled i h client message free =
     (sym (submits.taken n world st arrived handled h i client message free))
     (served-well n world st arrived handled i h client message free)
 
-pub riding-well : (n : ℕ) (world : World) (st : State) (arrived handled : List ℕ) (i : ℕ) (commit : Commit) → IsHonest n world st arrived handled
+pub riding-well : (n : ℕ) (world : World) (st : State) (arrived handled : List ℕ) (i : ℕ) (commit : Commit)
+    → IsHonest n world st arrived handled
     → IsClient n i → IsSubmitFor n (submit_of world i (suc (count i arrived)) (Some commit)) → count i arrived ≡ suc (count i handled)
     → IsCommitOf n world i (upto i (count i arrived) arrived) commit
     → IsOkAnd (submitted st i (submit_of world i (suc (count i arrived)) (Some commit))) (IsServedWell n world i arrived (i ∷ handled))

@@ -15,7 +15,7 @@ use Rattle.faust_lists.specs.Lists.{count, upto, IsTail}
 use Rattle.faust_lists.proofs.Counts.{count-own, count-other, upto-more}
 use Rattle.faust_honest.specs.World.{World}
 use Rattle.faust_honest.specs.Honest.{mem_of, turn_of, tuple_at, pending_of, next_submit, IsHonest, IsHeld}
-use Rattle.faust_honest.proofs.Held.{held-along, turn_of-free, turn-same, renewed-mem}
+use Rattle.faust_honest.proofs.Held.{held-along, turn_of-free, turn_with, renewed-mem}
 
 module _ (n : ℕ) (world : World) (st : State) (arrived handled : List ℕ) (h : IsHonest n world st arrived handled) (i : ℕ)
     (client : IsClient n i) (message : IsSubmitFor n (next_submit world arrived i)) (free : count i arrived ≡ count i handled) where
@@ -67,7 +67,7 @@ module _ (n : ℕ) (world : World) (st : State) (arrived handled : List ℕ) (h 
             (upto i (count i handled) arrived) (upto i (count i handled) (i ∷ arrived))
             refl refl
             (get_or-set_same st.turns (i - 1) _ first_turn (omega (arith, client.from_one, client.to_n, h.in_range.turns_paired))
-            ∙ turn-same t true (nat_lt (count i handled) t) busy)
+            ∙ ap (turn_with t) busy)
             (get_or-set_same st.memory (i - 1) _ None (omega (arith, client.from_one, client.to_n, h.in_range.memory_paired))
             ∙ renewed-mem world i (count i arrived) (memory_at st i) own.mem_is)
             (count-own i i arrived refl) refl
@@ -75,7 +75,8 @@ module _ (n : ℕ) (world : World) (st : State) (arrived handled : List ℕ) (h 
             submitted-held)
         | inr ne ↦
             let apart : k - 1 ≡ i - 1 → ⊥ = λ e. ne (omega (arith, e, within.from_one, client.from_one)) in
-            held-along n world k (version_at st k) (version_at state k) (proof_at st k) (proof_at state k) (turn_at st k) (turn_at state k)
+            held-along n world k (version_at st k) (version_at state k) (proof_at st k) (proof_at state k) (turn_at st k)
+            (turn_at state k)
             (memory_at st k) (memory_at state k) (count k arrived) (count k (i ∷ arrived)) (count k handled) (count k handled)
             (upto k (count k handled) arrived) (upto k (count k handled) (i ∷ arrived))
             refl refl

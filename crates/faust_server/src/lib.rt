@@ -10,6 +10,7 @@
 
 mod ahead;
 pub mod laws;
+mod memory;
 mod pending;
 mod per_client;
 mod refusal;

@@ -9,6 +9,7 @@ ghost use Rattle.faust_server.specs.States.{IsState};
 ghost use Rattle.faust_server.specs.TakenBack.{replaced_in, taken_back};
 
 use crate::ahead::is_ahead;
+use crate::memory::{copies_of_memory, copy_of_mem, no_memory, refreshed, renewed};
 use crate::pending::Pending;
 use crate::per_client::PerClient;
 use crate::refusal::{OutOfTurn, ServerError};
@@ -332,16 +333,6 @@ impl Server {
     }
 }
 
-fn no_memory(alloc: Global, n: u8) -> Result<Vec<Option<Mem>>, OutOfMemory>
-    ensures { IfOk result (λ list. list.items ≡ replicate n None) }
-{
-    let mut memory = Vec::with_capacity(alloc, usize::from(n))?;
-    for _ in 0..n {
-        memory.push(None)?;
-    }
-    Ok(memory)
-}
-
 fn initial_versions(alloc: Global, n: u8) -> Result<Vec<Known>, OutOfMemory>
     requires { IsClientCount n }
     ensures { IfOk result (λ list. list.items ≡ replicate n (unmade n)) }
@@ -361,51 +352,6 @@ fn copies_of_versions(alloc: Global, versions: &[Known]) -> Result<Vec<Known>, O
         copies.push(known.copy()?)?;
     }
     Ok(copies)
-}
-
-fn copies_of_memory(alloc: Global, memory: &[Option<Mem>]) -> Result<Vec<Option<Mem>>, OutOfMemory>
-    ensures { IfOk result (λ list. list.items ≡ memory.now) }
-{
-    let mut copies = Vec::with_capacity(alloc, memory.len())?;
-    for held in memory {
-        copies.push(copy_of_mem(held)?)?;
-    }
-    Ok(copies)
-}
-
-fn copy_of_mem(held: &Option<Mem>) -> Result<Option<Mem>, OutOfMemory>
-    ensures { IfOk result (λ copy. copy ≡ held.now) }
-{
-    match held {
-        Some(mem) => Ok(Some(mem.copy()?)),
-        None => Ok(None),
-    }
-}
-
-/// What the memory becomes at an operation of its client.
-fn renewed(held: Option<Mem>, m: Submit) -> Mem
-    ensures { result ≡ renewed held m }
-{
-    let (t, tag) = (m.t, m.data_tag);
-    match m.kind {
-        Kind::Write => Mem {
-            t,
-            value: m.value,
-            tag,
-        },
-        Kind::Read => refreshed(held, t, tag),
-    }
-}
-
-/// The memory with its value kept, and another number and data tag.
-fn refreshed(held: Option<Mem>, t: u64, tag: Tag) -> Mem
-    ensures { result ≡ record { t = t; value = value_of held; tag = tag } }
-{
-    let value = match held {
-        Some(mem) => mem.value,
-        None => None,
-    };
-    Mem { t, value, tag }
 }
 
 #[cfg(test)]

@@ -4,7 +4,7 @@ use Rattle.faust_types.proofs.Messages.{IsDigest-replicate}
 use Rattle.faust_server.proofs.server.tests.commit_of.Goals as goal
 
 pub returns : goal.returns
-returns c =
+returns g c =
     let tag : IsDigest (replicate 32 c.args.byte) = IsDigest-replicate c.args.byte (omega arith) in
     let asserted : c.is_initial.result ≡ false = search rules in
     record {

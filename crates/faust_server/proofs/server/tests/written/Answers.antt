@@ -3,8 +3,8 @@ use Rattle.faust_types.specs.Ranges.{IsDigest, IsValue}
 use Rattle.faust_types.proofs.Messages.{AreBytes-replicate, IsDigest-replicate}
 use Rattle.faust_server.proofs.server.tests.written.Goals as goal
 
-pub returns-in_ok-from_slice : goal.returns-in_ok-from_slice
-returns-in_ok-from_slice c =
+pub returns : goal.returns
+returns c =
     let tag : IsDigest (replicate 32 c.args.byte) = IsDigest-replicate c.args.byte (omega arith) in
     let text = c.in_ok-from_slice.field-0 in
     let is : text ≡ replicate 1 c.args.byte = c.in_ok-from_slice.ensures in
