@@ -28,7 +28,7 @@ struct ShownPart {
 }
 
 /// What the reply to a write shows.
-fn shown(c: u8, maker: u8, pending: usize, proofs: usize) -> Shown {
+fn answered(c: u8, maker: u8, pending: usize, proofs: usize) -> Shown {
     Shown {
         c,
         maker,
@@ -242,7 +242,7 @@ fn refuses_out_of_turn(rt: HostRuntime) {
         expected: 1,
         got: 2,
     };
-    let nothing = shown(1, 0, 0, 0);
+    let nothing = answered(1, 0, 0, 0);
     assert_eq!(rt; write(&mut server, alloc, 1, 2, b'a'), Err(early));
     assert_eq!(rt; write(&mut server, alloc, 1, 1, b'a'), Ok(nothing));
     assert_eq!(rt; write(&mut server, alloc, 1, 2, b'a'), Err(early));
@@ -271,7 +271,7 @@ fn an_incomparable_commit_takes_its_own_tuple(rt: HostRuntime) {
         commit(&rt, &mut server, alloc, 2, (0, 1), b'b').expect(&rt, "memory"),
         Ok(())
     );
-    let last = shown(1, 1, 0, 2);
+    let last = answered(1, 1, 0, 2);
     assert_eq!(rt; write(&mut server, alloc, 2, 2, b'c'), Ok(last));
 }
 
@@ -281,7 +281,7 @@ fn a_riding_commit_comes_first(rt: HostRuntime) {
     let mut server = server_for_two(alloc).expect(&rt, "memory");
     let _first = write(&mut server, alloc, 1, 1, b'a').expect(&rt, "in turn");
     let ahead = commit_of(&rt, alloc, (1, 0), b'a').expect(&rt, "memory");
-    let settled = shown(1, 1, 0, 1);
+    let settled = answered(1, 1, 0, 1);
     assert_eq!(rt;
         write_behind(&mut server, alloc, 1, 2, b'b', ahead),
         Ok(settled)
@@ -289,7 +289,7 @@ fn a_riding_commit_comes_first(rt: HostRuntime) {
     let other = write(&mut server, alloc, 2, 1, b'c').expect(&rt, "in turn");
     assert_eq!(rt; other.pending, 1);
     let apart = commit_of(&rt, alloc, (0, 1), b'c').expect(&rt, "memory");
-    let both = shown(1, 1, 1, 2);
+    let both = answered(1, 1, 1, 2);
     assert_eq!(rt;
         write_behind(&mut server, alloc, 2, 2, b'd', apart),
         Ok(both)
@@ -328,7 +328,7 @@ fn a_riding_commit_is_taken_back(rt: HostRuntime) {
         write_behind(&mut server, alloc, 2, 1, b'c', idle),
         Err(nothing_to_commit)
     );
-    let as_before = shown(1, 0, 1, 0);
+    let as_before = answered(1, 0, 1, 0);
     assert_eq!(rt; write(&mut server, alloc, 2, 1, b'c'), Ok(as_before));
 }
 
