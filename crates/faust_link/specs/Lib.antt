@@ -2,4 +2,5 @@ pub mod Frames
 pub mod Counts
 pub mod Links
 pub mod Views
+pub mod Changes
 pub mod Finding

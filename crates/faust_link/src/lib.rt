@@ -13,7 +13,14 @@
 mod answers;
 mod finding;
 pub mod laws;
+mod lines;
+mod mailbox;
+mod memory_net;
+mod memory_post;
+mod memory_stream;
 mod net;
+mod parcel;
+mod pipe;
 mod posts;
 mod reader;
 mod streams;
@@ -22,6 +29,9 @@ mod tests;
 mod writer;
 
 pub use answers::{Got, LinkError};
+pub use memory_net::MemNet;
+pub use memory_post::{MemPostIn, MemPostOut};
+pub use memory_stream::{MemIn, MemOut};
 pub use net::Net;
 pub use posts::{PostIn, PostOut};
 pub use reader::FrameReader;

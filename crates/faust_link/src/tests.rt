@@ -1,3 +1,5 @@
+mod nets;
+
 use crate::{FrameIn, FrameOut, FrameReader, FrameWriter, Got, LinkError};
 use faust_io::{MemSink, MemSource, SureSource};
 use faust_types::Bytes;
