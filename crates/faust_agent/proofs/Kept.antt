@@ -87,6 +87,7 @@ slot-other n heard j known k client within ne =
 pub holds-set : (n : ℕ) (heard : List Known) (j : ℕ) (known : Known) → HoldsEach n heard → IsClient n j → IsAnnouncedFor n known
     → HoldsEach n (slice_set heard (j - 1) known)
 holds-set n heard j known holds client range = record {
+  count = holds.count;
   counted = length-set heard (j - 1) known ∙ holds.counted;
   in_range = λ k within. elim (cases_eq k j) [
     | inl e ↦ subst (λ (i : ℕ). IsAnnouncedFor n (slot_in (slice_set heard (j - 1) known) i)) (sym e)
@@ -249,9 +250,9 @@ dummy-begun config me st kept idle = record {
   order_in_range = record { register_in_range = kept.next_in_range; value_in_range = refl };
 }
 
-pub kept-ticked : (config : Config) (me : ℕ) (st : Client) (m : ℕ) → IsClientCount config.clients → IsClientOf config me st
-    → IsClient config.clients me → IsClientOf config me (ticked_by config me st m)
-kept-ticked config me st m count kept client =
+pub kept-ticked : (config : Config) (me : ℕ) (st : Client) (m : ℕ) → IsClientOf config me st → IsClient config.clients me
+    → IsClientOf config me (ticked_by config me st m)
+kept-ticked config me st m kept client =
     let n = config.clients in
     let due = is_dummy_due config me st m in
     let acted : IsClientOf config me (begun_or_released config me st m) =
@@ -261,15 +262,14 @@ kept-ticked config me st m count kept client =
     kept-timers config me (begun_or_released config me st m) (timers_after config me st m) acted
     (news-counted config me st m n ∙ kept.news_counted)
     (either_way (IsClient n) due (other_register_after n me st.timers.next_dummy) st.timers.next_dummy
-    (λ now. other_register-in_range n me st.timers.next_dummy count client kept.next_in_range) (λ later. kept.next_in_range))
+    (λ now. other_register-in_range n me st.timers.next_dummy kept.versions.count client kept.next_in_range) (λ later. kept.next_in_range))
 
 -- a client does what it can do, and what it holds then is what every client keeps
-pub kept-after : (config : Config) (me : ℕ) (st : Client) (deed : Deed) → IsClientCount config.clients → IsClient config.clients me
-    → IsClientOf config me st → IsDeedFor config me st deed → IsClientOf config me (after config me st deed)
-kept-after config me st deeds.Ignores count client kept fits = kept
-kept-after config me st (deeds.Begins order) count client kept fits = kept-begun config me st order kept client fits
-kept-after config me st (deeds.Completes done) count client kept fits = kept-completed config me st done kept client fits
-kept-after config me st (deeds.Breaks notice) count client kept fits = record {
+pub kept-after : (config : Config) (me : ℕ) (st : Client) (deed : Deed) → IsClient config.clients me → IsClientOf config me st → IsDeedFor config me st deed → IsClientOf config me (after config me st deed)
+kept-after config me st deeds.Ignores client kept fits = kept
+kept-after config me st (deeds.Begins order) client kept fits = kept-begun config me st order kept client fits
+kept-after config me st (deeds.Completes done) client kept fits = kept-completed config me st done kept client fits
+kept-after config me st (deeds.Breaks notice) client kept fits = record {
   versions = kept.versions;
   news_counted = kept.news_counted;
   next_in_range = kept.next_in_range;
@@ -278,21 +278,22 @@ kept-after config me st (deeds.Breaks notice) count client kept fits = record {
   held_in_range = kept.held_in_range;
   held_under_wire_2 = kept.held_under_wire_2;
 }
-kept-after config me st (deeds.Answers j) count client kept fits = kept
-kept-after config me st (deeds.Hears j known) count client kept fits = kept-heard config me st j known kept client fits
-kept-after config me st (deeds.Ticks m) count client kept fits = kept-ticked config me st m count kept client
+kept-after config me st (deeds.Answers j) client kept fits = kept
+kept-after config me st (deeds.Hears j known) client kept fits = kept-heard config me st j known kept client fits
+kept-after config me st (deeds.Ticks m) client kept fits = kept-ticked config me st m kept client
 
 -- so what it holds after doing it is
 pub does-kept : (config : Config) (me : ℕ) (old new : Client) (deed : Deed) (result : Result Outcome OutOfMemory) (given : Outcome)
-    → IsClientCount config.clients → IsClient config.clients me → IsClientOf config me old → IsDeedFor config me old deed
+    → IsClient config.clients me → IsClientOf config me old → IsDeedFor config me old deed
     → Does result old new (after config me old deed) given → IsClientOf config me new
-does-kept config me old new deed (Ok outcome) given count client kept fits done =
-    subst (IsClientOf config me) (sym done.0) (kept-after config me old deed count client kept fits)
-does-kept config me old new deed (Err e) given count client kept fits done = subst (IsClientOf config me) (sym done) kept
+does-kept config me old new deed (Ok outcome) given client kept fits done =
+    subst (IsClientOf config me) (sym done.0) (kept-after config me old deed client kept fits)
+does-kept config me old new deed (Err e) given client kept fits done = subst (IsClientOf config me) (sym done) kept
 
 -- the first state
 pub holds-first : (n : ℕ) → IsClientCount n → HoldsEach n (replicate n (unmade n))
 holds-first n count = record {
+  count = count;
   counted = length-replicate n (unmade n);
   in_range = λ k client.
       let same : slot_in (replicate n (unmade n)) k ≡ unmade n =

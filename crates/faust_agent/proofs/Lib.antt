@@ -4,3 +4,5 @@ pub mod Kept
 pub mod Slots
 -- the round of a tick, and the pending operation
 pub mod Rounds
+-- what a deed tells, and that a client in range can do it
+pub mod Reasons

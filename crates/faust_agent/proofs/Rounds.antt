@@ -17,7 +17,7 @@ use Rattle.faust_agent.specs.Table.{is_probe_due, message_to, news_up_to, probed
 use Rattle.faust_agent.specs.Outcomes.{IsProbing, spelled_post}
 use Rattle.faust_agent.specs.InRange.{IsClientOf, IsCompletionOf, IsWaitedFor}
 use Rattle.faust_agent.specs.declared.client.Client.{Client}
-use Rattle.faust_agent.specs.declared.doing.Probing.{Probing}
+use Rattle.faust_agent.specs.declared.ticking.Probing.{Probing}
 use Rattle.faust_agent.proofs.Kept.{slot-sized}
 
 -- client k + 1 is probed

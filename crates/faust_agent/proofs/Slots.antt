@@ -1,5 +1,6 @@
 -- What a search over the versions of all clients finds, and how long a cut is.
-use Rattle.std.proofs.Common.{◌≡◌, ℕ, ◌+◌, ◌-◌, ◌≤◌, ◌∷◌, suc, zero, Bool, false, Option, Some, None, [], length, length-append, refl, sym, ap, ◌∙◌, arith}
+use Rattle.std.proofs.Common.{inl, inr, true, ◌≡◌, ℕ, ◌+◌, ◌-◌, ◌≤◌, ◌∷◌, suc, zero, Bool, false, Option, Some, None, [], length, length-append, refl, sym, ap, ◌∙◌, arith}
+use Rattle.std.proofs.lemmas.Bool.{cases_eq}
 use Rattle.faust_types.specs.Clients.{IsClientCount, IsClient}
 use Rattle.faust_types.specs.Versions.{Vector}
 use Rattle.faust_types.specs.Ranges.{IsAnnouncedFor}
@@ -36,6 +37,32 @@ first_unfit-at st next heard n k none unfit within =
     ap (first_unfit st next heard) (sym whole) ∙ first_unfit-stays st next heard (suc k) (n - suc k) (suc k) found
     ∙ ap (λ (j : ℕ). Some j) (sym step)
 
+-- where none is found all fit, and where all fit none is found
+or_unfit-none : (first : Option ℕ) (fits : Bool) (k : ℕ) → or_unfit first fits k ≡ None → (first ≡ None) × (fits ≡ true)
+or_unfit-none None true k none = (refl, refl)
+or_unfit-none None false k none = cc
+or_unfit-none (Some x) fits k none = cc
+
+pub fits-below : (st : Client) (next : Vector) (heard : Option Known) (n : ℕ) → first_unfit st next heard n ≡ None
+    → (k : ℕ) → IsClient n k → is_fitting next heard (version_at st k) ≡ true
+fits-below st next heard zero none k client = absurd (omega (arith, client.from_one, client.to_n))
+fits-below st next heard (suc n) none k client =
+    let parts = or_unfit-none (first_unfit st next heard n) (is_fitting next heard (version_at st (suc n))) (suc n) none in
+    elim (cases_eq k (suc n)) [
+      | inl e ↦ ap (λ (j : ℕ). is_fitting next heard (version_at st j)) e ∙ parts.1
+      | inr ne ↦ fits-below st next heard n parts.0 k (record { from_one = client.from_one; to_n = omega (arith, client.to_n, ne) })
+    ]
+
+pub fits-all : (st : Client) (next : Vector) (heard : Option Known) (n : ℕ)
+    → ((k : ℕ) → IsClient n k → is_fitting next heard (version_at st k) ≡ true) → first_unfit st next heard n ≡ None
+fits-all st next heard zero each = refl
+fits-all st next heard (suc n) each =
+    let before : first_unfit st next heard n ≡ None =
+    fits-all st next heard n (λ k client. each k (record { from_one = client.from_one; to_n = omega (arith, client.to_n) })) in
+    let here : is_fitting next heard (version_at st (suc n)) ≡ true = each (suc n) (record { from_one = omega arith; to_n = omega arith }) in
+    ap (λ (first : Option ℕ). or_unfit first (is_fitting next heard (version_at st (suc n))) (suc n)) before
+    ∙ ap (λ (fits : Bool). or_unfit None fits (suc n)) here
+
 -- the greatest known version is that of a client
 pub greatest_up_to-client : (n : ℕ) (st : Client) (k : ℕ) → IsClientCount n → k ≤ n → IsClient n (greatest_up_to st k)
 greatest_up_to-client n st zero count within = record { from_one = omega arith; to_n = omega (arith, count.at_least_two) }
@@ -44,9 +71,9 @@ greatest_up_to-client n st (suc k) count within =
     either_way (IsClient n) (is_less (version_at st best) (version_at st (suc k))) (suc k) best
     (λ newer. record { from_one = omega arith; to_n = within }) (λ older. greatest_up_to-client n st k count (omega arith))
 
-pub greatest-in_range : (n : ℕ) (st : Client) → IsClientCount n → HoldsEach n st.heard → IsAnnouncedFor n (greatest n st)
+pub greatest-in_range : (n : ℕ) (st : Client) → HoldsEach n st.heard → IsAnnouncedFor n (greatest n st)
 unfolding greatest
-greatest-in_range n st count holds = holds.in_range (greatest_up_to st n) (greatest_up_to-client n st n count (omega arith))
+greatest-in_range n st holds = holds.in_range (greatest_up_to st n) (greatest_up_to-client n st n holds.count (omega arith))
 
 -- a cut has an entry for each client
 pub length-cut : (me : ℕ) (st : Client) (k : ℕ) → length (cut_up_to me st k) ≡ k

@@ -1,6 +1,6 @@
 -- What every client keeps, and which deeds keep it. Promises rest on this only where a call names it.
 use Rattle.std.specs.Prelude.{◌≡◌, ◌≢◌, ℕ, true, length, List, Some, IsNone, IfSome}
-use Rattle.faust_types.specs.Clients.{IsClient}
+use Rattle.faust_types.specs.Clients.{IsClient, IsClientCount}
 use Rattle.faust_types.specs.Versions.{Vector}
 use Rattle.faust_types.specs.Ranges.{IsAnnouncedFor, IsCheck, IsCommitFor, IsConfig, IsValueOf}
 use Rattle.faust_types.specs.declared.config.Config.{Config}
@@ -22,6 +22,7 @@ pub record IsWaitedFor (n me : ℕ) (own : Vector) (op : Operation) : Type 0 whe
 
 -- One version of each of n clients.
 pub record HoldsEach (n : ℕ) (heard : List Known) : Type 0 where
+  pub count : IsClientCount n
   pub counted : length heard ≡ n
   pub in_range : (k : ℕ) → IsClient n k → IsAnnouncedFor n (slot_in heard k)
 

@@ -3,3 +3,4 @@ pub mod Deeds
 pub mod Table
 pub mod Outcomes
 pub mod InRange
+pub mod Tells

@@ -13,8 +13,8 @@ use Rattle.faust_agent.specs.Deeds.{Event, Sent, submits, commits}
 use Rattle.faust_agent.specs.Table.{after, announced_by, answer_of, began_of, committed_alone, deed_of, dummy_of, is_dummy_due, message_to, news_up_to, notice_of, operation_of, posts_of, probed_of, probed_up_to, released, sent_of, submit_of}
 use Rattle.faust_agent.specs.declared.client.Client.{Client}
 use Rattle.faust_agent.specs.declared.deed.Deed.{Deed}
-use Rattle.faust_agent.specs.declared.doing.Begun.{Begun}
-use Rattle.faust_agent.specs.declared.doing.Probing.{Probing}
+use Rattle.faust_agent.specs.declared.ticking.Begun.{Begun}
+use Rattle.faust_agent.specs.declared.ticking.Probing.{Probing}
 
 -- The bytes of what goes to the server, and to another client.
 abbrev pub sent_bytes : ℕ → Sent → List ℕ

@@ -95,7 +95,6 @@ impl Client {
     /// The greatest known version of n clients; of equal ones the first.
     #[tactic(auto, unfolding(crate::specs::State::greatest))]
     pub fn greatest(&self, n: u8) -> &Known
-        requires count { IsClientCount n }
         requires versions { HoldsEach n self.now.heard }
         ensures { result.now ≡ greatest n self.now }
     {
@@ -103,7 +102,6 @@ impl Client {
     }
 
     fn greatest_at(&self, n: u8) -> u8
-        requires count { IsClientCount n }
         requires versions { HoldsEach n self.now.heard }
         ensures place { result ≡ greatest_up_to self.now n }
         ensures client { IsClient n result }

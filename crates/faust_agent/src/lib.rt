@@ -16,8 +16,10 @@ mod deciding;
 mod deed;
 mod doing;
 mod identity;
+pub mod laws;
 mod reading;
 #[cfg(test)]
 mod tests;
+mod ticking;
 
 pub use agent::Agent;

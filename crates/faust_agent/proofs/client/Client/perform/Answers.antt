@@ -10,7 +10,7 @@ pub put_cut-requires-clause-versions : goal.put_cut-requires-clause-versions
 put_cut-requires-clause-versions c =
     let id = c.args.id.now in
     let known = c.clients-n.ensures in
-    let kept = kept-after id.config id.me c.args.self.now c.args.deed known.config.clients_count known.client c.requires.kept c.requires.deed in
+    let kept = kept-after id.config id.me c.args.self.now c.args.deed known.client c.requires.kept c.requires.deed in
     let same : c.act.new.self ≡ after id.config id.me c.args.self.now c.args.deed = c.in_ok-outcome.ensures.0 in
     subst (λ (n : ℕ). HoldsEach n c.act.new.self.heard) (sym known.count)
     (subst (λ (st : Client). HoldsEach id.config.clients st.heard) (sym same) kept.versions)

@@ -1,7 +1,7 @@
 use Rattle.std.proofs.Common.{◌≡◌, ◌+◌, ◌∷◌, ◌++◌, [], length, sym, ◌∙◌, ap, rules}
 use Rattle.std.proofs.lemmas.List.{length-set}
 use Rattle.std.specs.Prelude.{slice_set}
-use Rattle.faust_agent.specs.declared.doing.Probing.{Probing}
+use Rattle.faust_agent.specs.declared.ticking.Probing.{Probing}
 use Rattle.faust_agent.proofs.Rounds.{probing-same, probing-step}
 use Rattle.faust_agent.proofs.client.Client.probing.Goals as goal
 use Rattle.faust_agent.proofs.client.Client.probing.Goals.{then-is_probe_due+in_ok-push+in_ok-post+in_ok-push-2, else-is_probe_due}

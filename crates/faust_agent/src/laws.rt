@@ -1,0 +1,34 @@
+//! What the client's table keeps, and what a deed tells. Each function has an empty body, and its contract is the law.
+ghost use Rattle.std.specs.Prelude.{ℕ, List, IfSome};
+ghost use Rattle.faust_types.specs.Clients.{IsClient, IsClientCount};
+ghost use Rattle.faust_types.specs.Ranges.{AreBytes, IsPeerMessageFor, IsReplyFor};
+ghost use Rattle.faust_types.specs.declared.config.Config.{Config};
+ghost use Rattle.faust_agent.specs.State.{first_client};
+ghost use Rattle.faust_agent.specs.Deeds.{Event, peer_in, reply_in};
+ghost use Rattle.faust_agent.specs.Table.{after, deed_of};
+ghost use Rattle.faust_agent.specs.InRange.{IsClientOf, IsDeedFor};
+ghost use Rattle.faust_agent.specs.Tells.{IsEventFor, Tells};
+ghost use Rattle.faust_agent.specs.declared.client.Client.{Client};
+
+/// Each deed tells at which event it is done, and which checks were made before.
+pub fn deeds_tell_why()
+    ensures { (config : Config) (me : ℕ) (st : Client) (event : Event) → Tells config me st event (deed_of config me st event) }
+{}
+
+/// What a client holds is in range at first, and stays so at each event.
+pub fn clients_stay_in_range()
+    ensures first { (config : Config) (me : ℕ) → IsClientCount config.clients → IsClient config.clients me →
+        IsClientOf config me (first_client config.clients me) }
+    ensures deed { (config : Config) (me : ℕ) (st : Client) (event : Event) → IsClient config.clients me → IsClientOf config me st →
+        IsEventFor config.clients event → IsDeedFor config me st (deed_of config me st event) }
+    ensures later { (config : Config) (me : ℕ) (st : Client) (event : Event) → IsClient config.clients me → IsClientOf config me st →
+        IsEventFor config.clients event → IsClientOf config me (after config me st (deed_of config me st event)) }
+{}
+
+/// What bytes spell is in range.
+pub fn messages_are_in_range()
+    ensures reply { (config : Config) (bytes : List ℕ) → IsClientCount config.clients → AreBytes bytes →
+        IfSome (reply_in config bytes) (IsReplyFor config.clients) }
+    ensures peer { (config : Config) (bytes : List ℕ) → IsClientCount config.clients → AreBytes bytes →
+        IfSome (peer_in config bytes) (IsPeerMessageFor config.clients) }
+{}
