@@ -1,11 +1,11 @@
 -- The row COMMIT keeps what an honest server holds.
-use Rattle.std.proofs.Common.{◌≡◌, ℕ, ◌+◌, ◌-◌, ◌<◌, ◌≤◌, ◌&&◌, ◌||◌, zero, suc, Bool, true, false, not, List, [], ◌∷◌, ◌++◌, Option, Some, None, Result, Ok, length, get_or, slice_set, refl, sym, ap, ◌∙◌, subst, inl, inr, arith}
-use Rattle.std.proofs.lemmas.Bool.{cases_eq, cases_lt, cases_Bool, cond-true, cond-false, and_from, or_right, lt-ltb, le-ltb, false_from_ne_true}
+use Rattle.std.proofs.Common.{◌≡◌, ℕ, ◌-◌, ◌<◌, ◌≤◌, ◌&&◌, suc, Bool, true, false, not, List, ◌∷◌, ◌++◌, Some, None, Ok, length, get_or, refl, sym, ap, ◌∙◌, subst, inl, inr, arith}
+use Rattle.std.proofs.lemmas.Bool.{cases_eq, cases_lt, cond-true, cond-false, and_from, or_right, le-ltb, false_from_ne_true}
 use Rattle.std.proofs.lemmas.List.{append_assoc, get_or-set_same, get_or-set_other}
 use Rattle.faust_types.specs.Clients.{IsClient}
 use Rattle.faust_types.specs.Messages.{unmade}
 use Rattle.faust_types.specs.Ranges.{IsCommitFor}
-use Rattle.faust_types.specs.Versions.{Vector, clients_of, timestamp_at, digest_at, is_initial}
+use Rattle.faust_types.specs.Versions.{Vector, timestamp_at, is_initial}
 use Rattle.faust_types.specs.declared.message.Known.{Known}
 use Rattle.faust_types.specs.declared.message.Tuple.{Tuple}
 use Rattle.faust_types.specs.declared.message.Commit.{Commit}
@@ -15,8 +15,6 @@ use Rattle.faust_tags.specs.Bodies.{commit_body, tag_of}
 use Rattle.faust_server.specs.Ahead.{covers, is_ahead}
 use Rattle.faust_server.specs.Rows.{State, first_turn, memory_at, version_at, proof_at, turn_at, greatest, behind, without, advanced, settled, committed}
 use Rattle.faust_server.specs.declared.turn.Turn.{Turn}
-use Rattle.faust_server.specs.declared.refusal.OutOfTurn.{OutOfTurn}
-use Rattle.faust_server.specs.States.{IsStateFor}
 use Rattle.faust_server.proofs.Ordering.{covers-true, covers-from}
 use Rattle.faust_server.proofs.Kept.{IsStateFor-led, IsStateFor-settled}
 use Rattle.faust_server.proofs.Rows.{committed-taken}
@@ -29,7 +27,7 @@ use Rattle.faust_honest.specs.World.{World, IsCommitOf}
 use Rattle.faust_honest.specs.Honest.{turn_of, pending_of, IsHonest, IsHeld}
 use Rattle.faust_honest.proofs.Pending.{behind-pending, without-pending}
 use Rattle.faust_honest.proofs.Held.{held-along, turn_of-busy, turn_with}
-use Rattle.faust_honest.proofs.Standing.{counted, settled-tail, reached, once, settled-counts, greatest-version}
+use Rattle.faust_honest.proofs.Standing.{counted, settled-tail, once, greatest-version}
 
 -- the timestamps of a longer history are at least those of a front
 covers-tail : (n : ℕ) (v x : Vector) (u w : List ℕ) → IsVersionOf n v u → IsVersionOf n x w → IsTail u w

@@ -1,17 +1,17 @@
 -- The first state is that of an honest server which no message reached.
-use Rattle.std.proofs.Common.{◌≡◌, ℕ, ◌-◌, ◌<◌, ◌≤◌, true, List, [], Option, None, replicate, refl, sym, ap, ◌∙◌, subst, arith}
+use Rattle.std.proofs.Common.{◌≡◌, ℕ, ◌-◌, ◌<◌, true, List, [], Option, None, refl, sym, subst, arith}
 use Rattle.std.proofs.lemmas.Bool.{or_left}
 use Rattle.std.proofs.lemmas.List.{get_or-replicate}
 use Rattle.faust_types.specs.Clients.{IsClientCount, IsClient}
 use Rattle.faust_types.specs.Messages.{unmade}
 use Rattle.faust_types.specs.Versions.{digest_at, initial}
 use Rattle.faust_types.proofs.Messages.{is_initial-initial}
-use Rattle.faust_server.specs.Rows.{State, first_turn, first_state, version_at, proof_at, turn_at, memory_at}
+use Rattle.faust_server.specs.Rows.{first_turn, first_state, version_at, proof_at, turn_at, memory_at}
 use Rattle.faust_server.proofs.Kept.{IsStateFor-first}
 use Rattle.faust_ustor.specs.Checks.{is_digest_proven}
 use Rattle.faust_lists.proofs.Versions.{IsVersionOf-initial}
 use Rattle.faust_honest.specs.World.{World}
-use Rattle.faust_honest.specs.Honest.{turn_of, mem_of, IsHeld, IsHonest}
+use Rattle.faust_honest.specs.Honest.{IsHeld, IsHonest}
 use Rattle.faust_honest.proofs.Held.{held-along}
 
 -- nothing is held of a client that sent nothing

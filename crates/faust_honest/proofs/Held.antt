@@ -1,5 +1,5 @@
 -- What is held of a client, from one state to the next.
-use Rattle.std.proofs.Common.{◌≡◌, ℕ, ◌+◌, ◌-◌, ◌<◌, ◌≤◌, zero, suc, Bool, true, false, List, [], ◌∷◌, Option, Some, None, nat_lt, refl, sym, ap, ◌∙◌, subst, inl, inr, arith}
+use Rattle.std.proofs.Common.{◌≡◌, ℕ, ◌<◌, ◌≤◌, zero, suc, Bool, true, false, List, Option, Some, None, refl, sym, ap, ◌∙◌, subst}
 use Rattle.std.proofs.lemmas.Bool.{lt-ltb, le-ltb}
 use Rattle.faust_types.specs.Messages.{value_of}
 use Rattle.faust_types.specs.declared.operation.Kind.{Kind}
@@ -7,7 +7,6 @@ use Rattle.faust_types.specs.declared.operation.Kind.TheVariants.{Write, Read}
 use Rattle.faust_types.specs.declared.message.Known.{Known}
 use Rattle.faust_types.specs.declared.message.Mem.{Mem}
 use Rattle.faust_hash.proofs.Lists.{is_same_tells}
-use Rattle.faust_hash.specs.Tag.{is_same}
 use Rattle.faust_tags.specs.Bodies.{data_body, tag_of}
 use Rattle.faust_server.specs.Rows.{value_after, renewed}
 use Rattle.faust_server.specs.declared.turn.Turn.{Turn}

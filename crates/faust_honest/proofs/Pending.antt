@@ -1,5 +1,5 @@
 -- The tuples of the operations after the settled part of a history, and a walk along them.
-use Rattle.std.proofs.Common.{◌≡◌, ℕ, ◌+◌, ◌≤◌, suc, List, [], ◌∷◌, ◌++◌, refl, sym, ap, ◌∙◌, subst, inl, inr, arith}
+use Rattle.std.proofs.Common.{◌≡◌, ℕ, suc, List, [], ◌∷◌, ◌++◌, refl, sym, ap, ◌∙◌, subst, inl, inr, arith}
 use Rattle.std.proofs.lemmas.Bool.{cases_eq}
 use Rattle.std.proofs.lemmas.List.{append_assoc}
 use Rattle.faust_types.specs.Messages.{tuples_by}
@@ -7,7 +7,6 @@ use Rattle.faust_types.specs.declared.message.Tuple.{Tuple}
 use Rattle.faust_server.specs.Rows.{behind, without}
 use Rattle.faust_server.proofs.Tuples.{tuples_by-push_own, tuples_by-push_other, behind-first, without-none}
 use Rattle.faust_ustor.specs.declared.walk.Walk.{Walk}
-use Rattle.faust_ustor.specs.Checks.{advanced}
 use Rattle.faust_ustor.specs.Passed.{followed, clients_after}
 use Rattle.faust_ustor.proofs.Followed.{followed-append}
 use Rattle.faust_lists.specs.Lists.{count, AreClients}

@@ -1,39 +1,37 @@
 -- An honest server's reply breaks no check, and tells the history.
-use Rattle.std.proofs.Common.{◌≡◌, ◌≢◌, ℕ, ◌+◌, ◌-◌, ◌^◌, ◌<◌, ◌≤◌, ◌⊎◌, zero, suc, Bool, true, false, List, [], ◌∷◌, ◌++◌, Option, Some, None, IfSome, refl, sym, ap, ◌∙◌, subst, inl, inr, arith}
+use Rattle.std.proofs.Common.{◌≡◌, ◌≢◌, ℕ, ◌+◌, ◌-◌, ◌^◌, ◌<◌, ◌≤◌, ◌⊎◌, suc, true, List, [], ◌∷◌, ◌++◌, Option, None, IfSome, refl, sym, ap, ◌∙◌, subst, inl, inr, arith}
 use Rattle.std.proofs.lemmas.Bool.{cases_eq, cases_lt, and_from, lt-ltb, eq-eqb}
 use Rattle.std.proofs.lemmas.List.{get_or-set_same, get_or-set_other}
 use Rattle.faust_types.specs.Clients.{IsClient}
 use Rattle.faust_types.specs.Messages.{value_of}
 use Rattle.faust_types.specs.Ranges.{IsSubmitFor}
-use Rattle.faust_types.specs.Versions.{Vector, timestamp_at, digest_at}
+use Rattle.faust_types.specs.Versions.{timestamp_at, digest_at}
 use Rattle.faust_types.specs.declared.operation.Kind.{Kind}
 use Rattle.faust_types.specs.declared.operation.Kind.TheVariants.{Write, Read}
-use Rattle.faust_types.specs.declared.operation.Operation.{Operation}
 use Rattle.faust_types.specs.declared.message.Mem.{Mem}
-use Rattle.faust_types.specs.declared.message.ReadPart.{ReadPart}
 use Rattle.faust_types.specs.declared.message.Reply.{Reply}
 use Rattle.faust_types.specs.declared.message.Tuple.{Tuple}
 use Rattle.faust_hash.specs.Chain.{chain_of}
 use Rattle.faust_hash.specs.Tag.{is_same}
 use Rattle.faust_hash.proofs.Lists.{is_same_tells}
 use Rattle.faust_tags.specs.Bodies.{submit_body, tag_of}
-use Rattle.faust_server.specs.Rows.{State, memory_at, version_at, proof_at, turn_at, greatest, renewed, remembered, read_part, replied}
+use Rattle.faust_server.specs.Rows.{State, memory_at, version_at, proof_at, turn_at, greatest, remembered, read_part, replied}
 use Rattle.faust_server.specs.declared.turn.Turn.{Turn}
 use Rattle.faust_ustor.specs.declared.walk.Walk.{Walk}
-use Rattle.faust_ustor.specs.Checks.{begun, is_digest_proven, is_mem_right, is_next_submitted, is_part_for, is_proven, time_of}
-use Rattle.faust_ustor.specs.Passed.{followed, next_of, AreTuplesPassed, IsTuplePassed, IsPartPassed, IsPassed}
+use Rattle.faust_ustor.specs.Checks.{begun, is_digest_proven, is_mem_right, is_part_for, time_of}
+use Rattle.faust_ustor.specs.Passed.{followed, next_of, AreTuplesPassed, IsTuplePassed, IsPartPassed}
 use Rattle.faust_ustor.proofs.Followed.{passed-append}
-use Rattle.faust_lists.specs.Lists.{count, upto, last_to, AreClients, IsTail}
+use Rattle.faust_lists.specs.Lists.{count, upto, IsTail}
 use Rattle.faust_lists.specs.Walks.{IsVersionOf, IsWalkOf}
 use Rattle.faust_lists.proofs.Counts.{count-own, count-other}
 use Rattle.faust_lists.proofs.Tails.{tail-refl, tail-cons, count-tail, count-append, tail-append, AreClients-tail}
 use Rattle.faust_lists.proofs.Fronts.{count-upto, last_to-same}
 use Rattle.faust_lists.proofs.Versions.{IsWalkOf-begun, IsWalkOf-advanced, at_most-tail}
-use Rattle.faust_honest.specs.World.{World, written}
+use Rattle.faust_honest.specs.World.{World}
 use Rattle.faust_honest.specs.Honest.{mem_of, tuple_at, pending_of, next_submit, IsHonest, IsReadOf, IsAccepted}
 use Rattle.faust_honest.proofs.Pending.{IsWalkOf-pending}
 use Rattle.faust_honest.proofs.Held.{renewed-mem, value_of-mem, time_of-mem, mem_of-right}
-use Rattle.faust_honest.proofs.Standing.{counted, clients-after, once, settled-counts, settled-free, last-settled, own-digest, greatest-version, greatest-last, reached}
+use Rattle.faust_honest.proofs.Standing.{counted, clients-after, once, settled-counts, settled-free, last-settled, own-digest, greatest-version, greatest-last}
 
 module _ (n : ℕ) (world : World) (st : State) (arrived handled : List ℕ) (h : IsHonest n world st arrived handled) (i : ℕ)
     (client : IsClient n i) (message : IsSubmitFor n (next_submit world arrived i)) (free : count i arrived ≡ count i handled) where

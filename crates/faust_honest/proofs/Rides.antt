@@ -1,5 +1,5 @@
 -- A SUBMIT on which a COMMIT rides: the COMMIT first, and then the SUBMIT.
-use Rattle.std.proofs.Common.{◌≡◌, ℕ, suc, List, [], ◌∷◌, Option, Some, Result, Ok, IsOkAnd, refl, sym, ap, ◌∙◌, subst}
+use Rattle.std.proofs.Common.{◌≡◌, ℕ, suc, List, ◌∷◌, Some, Result, Ok, IsOkAnd, refl, sym, ◌∙◌, subst}
 use Rattle.faust_types.specs.Clients.{IsClient}
 use Rattle.faust_types.specs.Ranges.{IsSubmitFor, IsCommitFor}
 use Rattle.faust_types.specs.declared.message.Commit.{Commit}

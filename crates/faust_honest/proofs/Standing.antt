@@ -1,17 +1,15 @@
 -- What stands behind the settled part of an honest server's history.
-use Rattle.std.proofs.Common.{◌≡◌, ℕ, ◌+◌, ◌<◌, ◌≤◌, suc, true, List, [], ◌∷◌, ◌++◌, refl, sym, ap, ◌∙◌, subst, inl, inr, arith}
-use Rattle.std.proofs.lemmas.Bool.{cases_lt}
+use Rattle.std.proofs.Common.{◌≡◌, ℕ, ◌+◌, ◌≤◌, List, sym, ap, ◌∙◌, subst, arith}
 use Rattle.faust_types.specs.Clients.{IsClient}
 use Rattle.faust_types.specs.Versions.{digest_at}
 use Rattle.faust_hash.specs.Chain.{chain_of}
 use Rattle.faust_server.specs.Rows.{State, version_at, greatest}
 use Rattle.faust_lists.specs.Lists.{count, upto, last_to, AreClients, IsTail}
 use Rattle.faust_lists.specs.Walks.{IsVersionOf}
-use Rattle.faust_lists.proofs.Counts.{last_to-none}
-use Rattle.faust_lists.proofs.Tails.{tail-trans, count-tail, AreClients-tail, AreClients-front, count-append, tail-append}
-use Rattle.faust_lists.proofs.Fronts.{count-upto, upto-stable, upto-tail, upto-upto, last_to-same}
+use Rattle.faust_lists.proofs.Tails.{count-tail, AreClients-front, count-append, tail-append}
+use Rattle.faust_lists.proofs.Fronts.{count-upto, upto-stable, upto-upto}
 use Rattle.faust_honest.specs.World.{World}
-use Rattle.faust_honest.specs.Honest.{IsHonest, IsHeld}
+use Rattle.faust_honest.specs.Honest.{IsHonest}
 
 module _ (n : ℕ) (world : World) (st : State) (arrived handled : List ℕ) (h : IsHonest n world st arrived handled) where
   pub counted : (k : ℕ) → count k arrived ≡ count k h.after + count k h.settled

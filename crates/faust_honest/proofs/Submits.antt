@@ -1,14 +1,12 @@
 -- The row SUBMIT keeps what an honest server holds.
-use Rattle.std.proofs.Common.{◌≡◌, ℕ, ◌+◌, ◌-◌, ◌<◌, ◌≤◌, zero, suc, Bool, true, false, List, [], ◌∷◌, ◌++◌, Option, Some, None, Result, Ok, nat_lt, refl, sym, ap, ◌∙◌, subst, inl, inr, arith}
+use Rattle.std.proofs.Common.{◌≡◌, ℕ, ◌-◌, suc, true, false, List, [], ◌∷◌, ◌++◌, None, Ok, nat_lt, refl, sym, ap, ◌∙◌, subst, inl, inr, arith}
 use Rattle.std.proofs.lemmas.Bool.{cases_eq, lt-ltb}
 use Rattle.std.proofs.lemmas.List.{get_or-set_same, get_or-set_other}
 use Rattle.faust_types.specs.Clients.{IsClient}
 use Rattle.faust_types.specs.Ranges.{IsSubmitFor}
-use Rattle.faust_types.specs.declared.message.Known.{Known}
-use Rattle.faust_types.specs.declared.message.Mem.{Mem}
 use Rattle.faust_types.specs.declared.message.Tuple.{Tuple}
 use Rattle.faust_types.specs.declared.message.Submit.{Submit}
-use Rattle.faust_server.specs.Rows.{State, first_turn, memory_at, version_at, proof_at, turn_at, tuple_of, renewed, remembered, appended, served, submitted}
+use Rattle.faust_server.specs.Rows.{State, first_turn, memory_at, version_at, proof_at, turn_at, tuple_of, remembered, appended, served, submitted}
 use Rattle.faust_server.specs.declared.turn.Turn.{Turn}
 use Rattle.faust_server.proofs.Rows.{alone-taken, served-in_range}
 use Rattle.faust_lists.specs.Lists.{count, upto, IsTail}
