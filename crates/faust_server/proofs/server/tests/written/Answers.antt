@@ -1,4 +1,4 @@
-use Rattle.std.proofs.Common.{◌≡◌, sym, subst, arith, replicate, Some}
+use Rattle.std.proofs.Common.{◌≡◌, sym, subst, arith, replicate}
 use Rattle.faust_types.specs.Ranges.{IsDigest, IsValue}
 use Rattle.faust_types.proofs.Messages.{AreBytes-replicate, IsDigest-replicate}
 use Rattle.faust_server.proofs.server.tests.written.Goals as goal
