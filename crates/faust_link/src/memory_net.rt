@@ -1,6 +1,8 @@
-ghost use Rattle.std.specs.Prelude.{◌≡◌, IfOk};
+ghost use Rattle.std.specs.Prelude.{◌≡◌, ◌≢◌, ◌↔◌, ◌+◌, Err, IfOk, OnOk, OnErr, Contains};
 ghost use Rattle.faust_io.specs.Faults.{CountsFault};
-ghost use Rattle.faust_link.specs.Counts.{CountsBack};
+ghost use Rattle.faust_io.specs.Calls.{next};
+ghost use Rattle.faust_link.specs.Counts.{CountsLink, CountsBack};
+ghost use Rattle.faust_link.specs.MemoryNet.{new_net};
 
 use crate::answers::LinkError;
 use crate::lines::{Lines, Place};
@@ -9,9 +11,11 @@ use crate::memory_post::{MemPostIn, MemPostOut};
 use crate::memory_stream::{MemIn, MemOut};
 use crate::net::Net;
 use crate::pipe::Pipe;
+use crate::streams::{FrameIn, FrameOut};
 use faust_types::{Numbers, OutOfMemory};
 use std::alloc::Global;
 use std::collections::VecDeque;
+use std::marker::Model;
 use std::sync::{Arc, Mutex, Wait};
 
 /// The two ends of a stream that one side has, of which no call failed yet.
@@ -46,6 +50,21 @@ pub struct MemNet<R> {
     faults: u64,
 }
 
+impl<R> Model for MemNet<R> {
+    ghost use Rattle.std.specs.Prelude.{length};
+    ghost use Rattle.faust_link.specs.MemoryNet.{NetView};
+
+    ghost Value = { NetView };
+
+    ghost view = { λ net. record {
+      clients = net.clients;
+      failing = net.fails;
+      connects = net.connects;
+      waiting = length net.connected.items;
+      faults = net.faults;
+    } };
+}
+
 impl<R: Wait + Copy> MemNet<R> {
     /// A net for n clients whose `connect` calls with the listed numbers, counted from 1, fail. The q-th datagram
     /// that is given is lost where place q of `posts`, counted from 1, is 1, arrives twice where it is 2, behind
@@ -57,7 +76,7 @@ impl<R: Wait + Copy> MemNet<R> {
         fails: &[u64],
         posts: &[u8],
     ) -> Result<MemNet<R>, OutOfMemory>
-        ensures { IfOk result (λ net. net.faults ≡ 0) }
+        ensures { IfOk result (λ net. net ≡ new_net n fails.now) }
     {
         Ok(MemNet {
             rt,
@@ -82,7 +101,7 @@ impl<R: Wait + Copy> MemNet<R> {
     /// From now on the first frame to each client waits until every client has sent two frames to the server. A
     /// `recv` that has looked 10,000,000 times in vain fails. It takes no memory.
     pub fn meet(&mut self)
-        ensures { self.new.faults ≡ self.old.faults }
+        ensures { self.new ≡ self.old }
     {
         self.lines.meet();
     }
@@ -90,7 +109,7 @@ impl<R: Wait + Copy> MemNet<R> {
     /// Changes the lowest bit of the last byte of the `call`-th frame, counted from 1, that goes to the server
     /// from this client, or to this client. It is no fault.
     pub fn flip(&mut self, client: u8, to_server: bool, call: usize) -> Result<(), OutOfMemory>
-        ensures { self.new.faults ≡ self.old.faults }
+        ensures { self.new ≡ self.old }
     {
         self.lines.flip(
             &self.rt,
@@ -104,6 +123,7 @@ impl<R: Wait + Copy> MemNet<R> {
 
     fn fail(&mut self) -> LinkError
         ensures answer { result ≡ LinkError.Failed }
+        ensures same { self.new ≡ record self.old { faults = self.new.faults } }
         ensures count { CountsFault self.old.faults self.new.faults }
     {
         self.faults = self.faults.saturating_add(1);
@@ -142,7 +162,8 @@ impl<R: Wait + Copy> MemNet<R> {
 
     /// Makes the stream of client i, and lets the server's side wait to be accepted.
     fn stream(&mut self, i: u8) -> Result<Side<R>, OutOfMemory>
-        ensures { self.new.faults ≡ self.old.faults }
+        ensures ok { OnOk result (self.new ≡ record self.old { waiting = self.old.waiting + 1 }) }
+        ensures err { OnErr result (self.new ≡ self.old) }
     {
         let up = Arc::new(self.alloc, Pipe::new(self.alloc))?;
         let down = Arc::new(self.alloc, Pipe::new(self.alloc))?;
@@ -172,14 +193,26 @@ impl<R: Wait + Copy + Send> Net for MemNet<R> {
 
     ghost faults = { λ net. net.faults };
 
-    fn listen(&mut self, n: u8) -> Result<(), LinkError> {
+    fn listen(&mut self, n: u8) -> Result<(), LinkError>
+        ensures faults { CountsLink result self.old.faults self.new.faults }
+        ensures refused { result ≡ Err LinkError.Failed ↔ (n ≢ self.old.clients) }
+    {
         if n != self.clients {
             return Err(self.fail());
         }
         Ok(())
     }
 
-    fn connect(&mut self, i: u8) -> Result<(MemIn<R>, MemOut<R>), LinkError> {
+    fn connect(&mut self, i: u8) -> Result<(MemIn<R>, MemOut<R>), LinkError>
+        ensures faults { CountsLink result self.old.faults self.new.faults }
+        ensures in_fresh { IfOk result (λ ends. ⟦<MemIn<R> as FrameIn>⟧.faults ends.0 ≡ 0) }
+        ensures out_fresh { IfOk result (λ ends. ⟦<MemOut<R> as FrameOut>⟧.faults ends.1 ≡ 0) }
+
+        // The listed calls fail, and no others.
+        ensures listed { result ≡ Err LinkError.Failed ↔ Contains self.old.failing (next self.old.connects) }
+        ensures counted { self.new.connects ≡ next self.old.connects }
+        ensures waits { OnOk result (self.new.waiting ≡ self.old.waiting + 1) }
+    {
         self.connects = self.connects.saturating_add(1);
         if self.fails.as_slice().contains(&self.connects) {
             return Err(self.fail());
@@ -187,7 +220,15 @@ impl<R: Wait + Copy + Send> Net for MemNet<R> {
         Ok(self.stream(i)?.into_ends())
     }
 
-    fn accept(&mut self) -> Result<(MemIn<R>, MemOut<R>), LinkError> {
+    fn accept(&mut self) -> Result<(MemIn<R>, MemOut<R>), LinkError>
+        ensures faults { CountsLink result self.old.faults self.new.faults }
+        ensures in_fresh { IfOk result (λ ends. ⟦<MemIn<R> as FrameIn>⟧.faults ends.0 ≡ 0) }
+        ensures out_fresh { IfOk result (λ ends. ⟦<MemOut<R> as FrameOut>⟧.faults ends.1 ≡ 0) }
+
+        // It fails where no stream waits.
+        ensures none { result ≡ Err LinkError.Failed ↔ (self.old.waiting ≡ 0) }
+        ensures taken { OnOk result (self.new.waiting + 1 ≡ self.old.waiting) }
+    {
         match self.connected.pop_front() {
             Some(server) => Ok(server.into_ends()),
             None => Err(self.fail()),

@@ -18,7 +18,7 @@ pub struct MemPostIn<R> {
 
 impl<R: Wait> MemPostIn<R> {
     /// The mailbox of this client.
-    pub fn new(rt: R, office: Arc<Mutex<Office>, Global>, client: u8) -> MemPostIn<R> {
+    pub(crate) fn new(rt: R, office: Arc<Mutex<Office>, Global>, client: u8) -> MemPostIn<R> {
         MemPostIn { rt, office, client }
     }
 }
@@ -48,7 +48,7 @@ pub struct MemPostOut<R> {
 
 impl<R: Wait> MemPostOut<R> {
     /// The way to all mailboxes.
-    pub fn new(rt: R, office: Arc<Mutex<Office>, Global>) -> MemPostOut<R> {
+    pub(crate) fn new(rt: R, office: Arc<Mutex<Office>, Global>) -> MemPostOut<R> {
         MemPostOut { rt, office }
     }
 }

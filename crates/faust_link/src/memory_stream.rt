@@ -30,7 +30,7 @@ pub struct MemIn<R> {
 
 impl<R: Wait> MemIn<R> {
     /// The end of this pipe. The first frame waits until all have met where `waits_for_all` says so.
-    pub fn new(
+    pub(crate) fn new(
         rt: R,
         pipe: Arc<Pipe, Global>,
         lines: Arc<Lines, Global>,
@@ -118,7 +118,7 @@ pub struct MemOut<R> {
 
 impl<R: Wait> MemOut<R> {
     /// The end of this pipe, which carries the frames of a client to the server, or of the server to a client.
-    pub fn new(
+    pub(crate) fn new(
         rt: R,
         alloc: Global,
         pipe: Arc<Pipe, Global>,
