@@ -162,7 +162,8 @@ kept-begun config me st order kept client begun =
 pub held-in_range : (config : Config) (me : ℕ) (st : Client) (next : Vector) → IsClientOf config me st → IsVersionFor config.clients next
     → is_initial next ≡ false → IfSome (commit_held config me st next) (IsCommitFor config.clients)
 held-in_range config me st next kept range made =
-    either_way (λ (held : Option Commit). IfSome held (IsCommitFor config.clients)) (config.wire == 1) st.held (Some (commit_of config me next))
+    let fits : Option Commit → Type 0 = λ (held : Option Commit). IfSome held (IsCommitFor config.clients) in
+    either_way fits (config.wire == 1) st.held (Some (commit_of config me next))
     (λ one. kept.held_in_range) (λ two. commit-in_range config me next range made)
 
 pub held-for_wire : (config : Config) (me : ℕ) (st : Client) (next : Vector) → IsClientOf config me st → config.wire ≡ 1
@@ -183,8 +184,8 @@ kept-moved config me st next kept client range made = record {
   held_under_wire_2 = held-for_wire config me st next kept;
 }
 
-pub kept-read : (config : Config) (me : ℕ) (st : Client) (j : ℕ) (heard : Option Known) → IsClientOf config me st → IsClient config.clients me
-    → IsClient config.clients j → IfSome heard (IsKnownBy config.clients j) → IsClientOf config me (with_read me st j heard)
+pub kept-read : (config : Config) (me : ℕ) (st : Client) (j : ℕ) (heard : Option Known) → IsClientOf config me st
+    → IsClient config.clients me → IsClient config.clients j → IfSome heard (IsKnownBy config.clients j) → IsClientOf config me (with_read me st j heard)
 kept-read config me st j None kept client within range = kept
 kept-read config me st j (Some known) kept client within range =
     either_way (IsClientOf config me) (not (j == me) && is_less (version_at st j) known.version) (with_news (with_slot st j known) j) st
@@ -197,8 +198,9 @@ pub kept-completed : (config : Config) (me : ℕ) (st : Client) (done : Completi
     → IsCompletionOf config me st done → IsClientOf config me (completed_by config me st done)
 kept-completed config me st done kept client completes =
     let judged = completes.judged_in_range in
-    kept-read config me (moved_on config me st done.judged.next) done.op.register done.judged.heard
-    (kept-moved config me st done.judged.next kept client judged.next_in_range judged.next_made) client completes.register_in_range judged.heard_known
+    let moved = kept-moved config me st done.judged.next kept client judged.next_in_range judged.next_made in
+    kept-read config me (moved_on config me st done.judged.next) done.op.register done.judged.heard moved client
+    completes.register_in_range judged.heard_known
 
 -- Peer message
 pub kept-heard : (config : Config) (me : ℕ) (st : Client) (j : ℕ) (known : Known) → IsClientOf config me st → IsClient config.clients me
@@ -265,7 +267,8 @@ kept-ticked config me st m kept client =
     (λ now. other_register-in_range n me st.timers.next_dummy kept.versions.count client kept.next_in_range) (λ later. kept.next_in_range))
 
 -- a client does what it can do, and what it holds then is what every client keeps
-pub kept-after : (config : Config) (me : ℕ) (st : Client) (deed : Deed) → IsClient config.clients me → IsClientOf config me st → IsDeedFor config me st deed → IsClientOf config me (after config me st deed)
+pub kept-after : (config : Config) (me : ℕ) (st : Client) (deed : Deed) → IsClient config.clients me → IsClientOf config me st
+    → IsDeedFor config me st deed → IsClientOf config me (after config me st deed)
 kept-after config me st deeds.Ignores client kept fits = kept
 kept-after config me st (deeds.Begins order) client kept fits = kept-begun config me st order kept client fits
 kept-after config me st (deeds.Completes done) client kept fits = kept-completed config me st done kept client fits

@@ -93,10 +93,9 @@ heeded-tells : (config : Config) (me : ℕ) (st : Client) (message : PeerMessage
 heeded-tells config me st message peers.Probe accepted says =
     record { message = message; accepted = accepted; from_j = refl; probes = says }
 heeded-tells config me st message (peers.Version known) accepted says =
-    either_way (Tells config me st (told (Some message))) (is_none st.notice)
-    (heeded_version message.from known (first_unfit st known.version None config.clients)) deeds.Ignores
-    (λ none. version-tells config me st message known (first_unfit st known.version None config.clients) accepted says (none-of st.notice none) refl)
-    (λ some. tt)
+    let first : Option ℕ = first_unfit st known.version None config.clients in
+    either_way (Tells config me st (told (Some message))) (is_none st.notice) (heeded_version message.from known first) deeds.Ignores
+    (λ none. version-tells config me st message known first accepted says (none-of st.notice none) refl) (λ some. tt)
 heeded-tells config me st message (peers.Failure check) accepted says =
     either_way (Tells config me st (told (Some message))) (is_none st.notice) (broken 15 message.from) deeds.Ignores
     (λ none. record { no_notice = none-of st.notice none; breaking = failed message check accepted says refl })
@@ -130,7 +129,8 @@ deed-tells config me st (ticked m) =
 deed-tells config me st passed = tt
 
 -- a client in range can do each of its deeds
-break-in_range : (config : Config) (me : ℕ) (st : Client) (event : Event) (notice : Notice) → Breaking config me st event notice → IsCheck notice.check
+break-in_range : (config : Config) (me : ℕ) (st : Client) (event : Event) (notice : Notice) → Breaking config me st event notice
+    → IsCheck notice.check
 break-in_range config me st event notice (no_reply came is) =
     subst (λ (n : Notice). IsCheck n.check) (sym is) (record { from_one = omega arith; to_15 = omega arith })
 break-in_range config me st event notice (unasked reply came none is) =
@@ -189,7 +189,8 @@ deed-in_range config me st event client kept fits =
     tells-in_range config me st event (deed_of config me st event) client kept fits (deed-tells config me st event)
 
 -- a client keeps what every client keeps
-pub kept-event : (config : Config) (me : ℕ) (st : Client) (event : Event) → IsClient config.clients me → IsClientOf config me st → IsEventFor config.clients event → IsClientOf config me (after config me st (deed_of config me st event))
+pub kept-event : (config : Config) (me : ℕ) (st : Client) (event : Event) → IsClient config.clients me → IsClientOf config me st
+    → IsEventFor config.clients event → IsClientOf config me (after config me st (deed_of config me st event))
 kept-event config me st event client kept fits =
     kept-after config me st (deed_of config me st event) client kept (deed-in_range config me st event client kept fits)
 
@@ -210,18 +211,21 @@ as_peer-in_range n (Some (messages.Commit m)) range = tt
 as_peer-in_range n (Some (messages.Peer m)) range = range
 as_peer-in_range n (Some (messages.Hello client)) range = tt
 
-message-in_range : (n : ℕ) (message : Option Message) → ((m : Message) → message ≡ Some m → IsMessageFor n m) → IfSome message (IsMessageFor n)
+message-in_range : (n : ℕ) (message : Option Message) → ((m : Message) → message ≡ Some m → IsMessageFor n m)
+    → IfSome message (IsMessageFor n)
 message-in_range n None each = tt
 message-in_range n (Some m) each = each m refl
 
 pub reply-in_range : (config : Config) (bytes : List ℕ) → IsClientCount config.clients → AreBytes bytes
     → IfSome (reply_in config bytes) (IsReplyFor config.clients)
 reply-in_range config bytes count are =
-    as_reply-in_range config.clients (message_of config.wire config.clients bytes)
-    (message-in_range config.clients (message_of config.wire config.clients bytes) (λ m is. message-range config.wire config.clients bytes m count are is))
+    let message = message_of config.wire config.clients bytes in
+    as_reply-in_range config.clients message
+    (message-in_range config.clients message (λ m is. message-range config.wire config.clients bytes m count are is))
 
 pub peer-in_range : (config : Config) (bytes : List ℕ) → IsClientCount config.clients → AreBytes bytes
     → IfSome (peer_in config bytes) (IsPeerMessageFor config.clients)
 peer-in_range config bytes count are =
-    as_peer-in_range config.clients (message_of config.wire config.clients bytes)
-    (message-in_range config.clients (message_of config.wire config.clients bytes) (λ m is. message-range config.wire config.clients bytes m count are is))
+    let message = message_of config.wire config.clients bytes in
+    as_peer-in_range config.clients message
+    (message-in_range config.clients message (λ m is. message-range config.wire config.clients bytes m count are is))

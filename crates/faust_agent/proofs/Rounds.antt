@@ -48,7 +48,8 @@ probing-more config me st m k probing post so_far due made =
       news = slice_set probing.news k m;
     }) = λ j same is. record {
       probed = ap (λ (xs : List ℕ). xs ++ j ∷ []) so_far.probed ∙ ap (λ (i : ℕ). probed ++ i ∷ []) (sym same) ∙ sym grown;
-      posts = ap (λ (xs : List Post). xs ++ post ∷ []) so_far.posts ∙ ap (λ (x : Post). map spelled (map tagged probed) ++ x ∷ []) (is ∙ ap (λ (i : ℕ). spelled (tagged i)) (sym same))
+      posts = ap (λ (xs : List Post). xs ++ post ∷ []) so_far.posts
+          ∙ ap (λ (x : Post). map spelled (map tagged probed) ++ x ∷ []) (is ∙ ap (λ (i : ℕ). spelled (tagged i)) (sym same))
           ∙ sym last ∙ ap (λ (xs : List ℕ). map spelled (map tagged xs)) (sym grown);
       news = ap (λ (xs : List ℕ). slice_set xs k m) so_far.news ∙ sym news;
     } in
@@ -58,7 +59,8 @@ probing-more config me st m k probing post so_far due made =
       news = slice_set probing.news k m;
     })) step (at_step (k + 1) step made)
 
-pub probing-step : (config : Config) (me : ℕ) (st : Client) (m k : ℕ) (before after : Probing) (post : Post) → IsProbing config me st m k before
+pub probing-step : (config : Config) (me : ℕ) (st : Client) (m k : ℕ) (before after : Probing) (post : Post)
+    → IsProbing config me st m k before
     → is_probe_due config me st m (k + 1) ≡ true → post ≡ spelled_post config.wire (message_to config me peers.Probe (k + 1))
     → after.probed ≡ before.probed ++ (k + 1) ∷ [] → after.posts ≡ before.posts ++ post ∷ [] → after.news ≡ slice_set before.news k m
     → IsProbing config me st m (k + 1) after
@@ -91,7 +93,8 @@ completion-of config me st op judged own kept client waits is range =
     let n = config.clients in
     let waited : IsWaitedFor n me (version_at st me) op =
     subst (λ (waiting : Option Operation). IfSome waiting (IsWaitedFor n me (version_at st me))) waits kept.waiting_in_range in
-    let sized : clients_of own.version ≡ n = ap (λ (known : Known). clients_of known.version) is ∙ slot-sized n st.heard me kept.versions client in
+    let sized : clients_of own.version ≡ n =
+    ap (λ (known : Known). clients_of known.version) is ∙ slot-sized n st.heard me kept.versions client in
     record {
       was_waiting = waits;
       register_in_range = waited.register_in_range;

@@ -30,7 +30,8 @@ pub first_unfit-at : (st : Client) (next : Vector) (heard : Option Known) (n k :
 first_unfit-at st next heard n k none unfit within =
     let step : k + 1 ≡ suc k = omega arith in
     let whole : suc k + (n - suc k) ≡ n = omega arith in
-    let here : is_fitting next heard (version_at st (suc k)) ≡ false = ap (λ (j : ℕ). is_fitting next heard (version_at st j)) (sym step) ∙ unfit in
+    let here : is_fitting next heard (version_at st (suc k)) ≡ false =
+    ap (λ (j : ℕ). is_fitting next heard (version_at st j)) (sym step) ∙ unfit in
     let found : first_unfit st next heard (suc k) ≡ Some (suc k) =
     ap (λ (first : Option ℕ). or_unfit first (is_fitting next heard (version_at st (suc k))) (suc k)) none
     ∙ ap (λ (fits : Bool). or_unfit None fits (suc k)) here in
@@ -59,7 +60,8 @@ fits-all st next heard zero each = refl
 fits-all st next heard (suc n) each =
     let before : first_unfit st next heard n ≡ None =
     fits-all st next heard n (λ k client. each k (record { from_one = client.from_one; to_n = omega (arith, client.to_n) })) in
-    let here : is_fitting next heard (version_at st (suc n)) ≡ true = each (suc n) (record { from_one = omega arith; to_n = omega arith }) in
+    let here : is_fitting next heard (version_at st (suc n)) ≡ true =
+    each (suc n) (record { from_one = omega arith; to_n = omega arith }) in
     ap (λ (first : Option ℕ). or_unfit first (is_fitting next heard (version_at st (suc n))) (suc n)) before
     ∙ ap (λ (fits : Bool). or_unfit None fits (suc n)) here
 

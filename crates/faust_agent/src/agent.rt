@@ -44,7 +44,7 @@ impl Agent {
         Ok(Agent { identity, client })
     }
 
-    /// The user begins to write a value of at most 4,096 bytes into the own register.
+    /// The user of an idle client begins to write a value of at most 4,096 bytes into its register.
     #[tactic(auto, unfolding(crate::specs::Table::deed_of))]
     pub fn begin_write(&mut self, value: &[u8]) -> Result<Outcome, OutOfMemory>
         requires idle { is_idle self.old.me self.old.client ≡ true }
@@ -61,7 +61,7 @@ impl Agent {
         self.perform(Deed::Begins(order))
     }
 
-    /// The user begins to read the register of a client from 1 to n.
+    /// The user of an idle client begins to read the register of a client from 1 to n.
     #[tactic(auto, unfolding(crate::specs::Table::deed_of))]
     pub fn begin_read(&mut self, register: u8) -> Result<Outcome, OutOfMemory>
         requires idle { is_idle self.old.me self.old.client ≡ true }
@@ -77,7 +77,7 @@ impl Agent {
         self.perform(Deed::Begins(order))
     }
 
-    /// Bytes come as a reply of the server.
+    /// Any bytes come as a reply of the server. A broken check is in the outcome, and the client begins nothing more.
     pub fn on_reply(&mut self, bytes: &[u8]) -> Result<Outcome, OutOfMemory>
         ensures { Steps result self.old self.new (deed_at self.old (replied (reply_in self.old.config bytes.now))) }
     {
@@ -86,7 +86,7 @@ impl Agent {
         self.perform(deed)
     }
 
-    /// Bytes come as a message of another client.
+    /// Any bytes come as a message of another client. What is no such message to this one, rightly tagged, is dropped.
     pub fn on_peer(&mut self, bytes: &[u8]) -> Result<Outcome, OutOfMemory>
         ensures { Steps result self.old self.new (deed_at self.old (told (peer_in self.old.config bytes.now))) }
     {
@@ -95,7 +95,7 @@ impl Agent {
         self.perform(deed)
     }
 
-    /// A moment is handed in.
+    /// A moment is handed in: probes, a dummy read, and a held COMMIT may be due. One before the last is dropped.
     #[tactic(auto, unfolding(crate::specs::Table::deed_of))]
     pub fn on_tick(&mut self, moment: u64) -> Result<Outcome, OutOfMemory>
         ensures { Steps result self.old self.new (deed_at self.old (ticked moment)) }

@@ -311,7 +311,8 @@ fn copy_of_commit(held: &Option<Commit>) -> Result<Option<Commit>, OutOfMemory>
 // FAILURE to every other client.
 fn failures(alloc: Global, id: &Identity, check: u8) -> Result<Posts, OutOfMemory>
     requires { IsCheck check }
-    ensures { let messages = map (message_to id.now.config id.now.me (peers.Failure check)) (others_up_to id.now.me id.now.config.clients) in
+    ensures { let others = others_up_to id.now.me id.now.config.clients in
+        let messages = map (message_to id.now.config id.now.me (peers.Failure check)) others in
         IfOk result (λ posts. posts ≡ map (spelled_post id.now.config.wire) messages) }
 {
     let mut posts = Posts::new(alloc);

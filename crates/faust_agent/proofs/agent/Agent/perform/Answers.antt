@@ -9,4 +9,5 @@ invariant_of-self c =
     let id = c.self.inside.identity in
     let fits : IsDeedFor id.config id.me c.self.inside.client c.args.deed =
     subst (λ (member : Member). IsDeedFor member.config member.me member.client c.args.deed) (sym c.self.view_is) c.requires in
-    does-kept id.config id.me c.self.inside.client c.perform.new.self c.args.deed c.perform.result _ id.member c.self.invariant fits c.perform.ensures
+    does-kept id.config id.me c.self.inside.client c.perform.new.self c.args.deed c.perform.result _
+    id.member c.self.invariant fits c.perform.ensures

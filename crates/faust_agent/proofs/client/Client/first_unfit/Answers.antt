@@ -7,4 +7,6 @@ use Rattle.faust_agent.proofs.client.Client.first_unfit.Goals as goal
 pub returns-then-not-is_fitting : goal.returns-then-not-is_fitting
 returns-then-not-is_fitting c =
     let unfit : is_fitting c.args.next.now c.args.heard.now (version_at c.args.self.now (c.loop-before.before + 1)) ≡ false = cc in
-    sym (first_unfit-at c.args.self.now c.args.next.now c.args.heard.now c.args.n c.loop-before.before c.loop-before.invariant unfit (omega arith))
+    let next = c.args.next.now in
+    let heard = c.args.heard.now in
+    sym (first_unfit-at c.args.self.now next heard c.args.n c.loop-before.before c.loop-before.invariant unfit (omega arith))

@@ -5,4 +5,5 @@ use Rattle.faust_agent.proofs.client.Client.probe_answer.Goals as goal
 
 pub returns-in_ok-copy-in-None-clause-in_range : goal.returns-in_ok-copy-in-None-clause-in_range
 returns-in_ok-copy-in-None-clause-in_range c =
-    subst (IsAnnouncedFor c.args.n) (sym (c.in_ok-copy-in-None.ensures ∙ c.greatest.ensures)) (greatest-in_range c.args.n c.args.self.now c.requires.versions)
+    subst (IsAnnouncedFor c.args.n) (sym (c.in_ok-copy-in-None.ensures ∙ c.greatest.ensures))
+    (greatest-in_range c.args.n c.args.self.now c.requires.versions)

@@ -20,7 +20,8 @@ loop-before-preserved c =
           let posts : after.posts ≡ before.posts ++ w.in_ok-post.field-0 ∷ [] = w.posts-is ∙ w.in_ok-push-2.ensures.ok in
           let news : after.news ≡ slice_set before.news k m = search rules in (
             ap length news ∙ length-set before.news k m ∙ c.loop-before.invariant.0,
-            probing-step id.config id.me st m k before after w.in_ok-post.field-0 c.loop-before.invariant.1 (sym w.if-is_probe_due.ensures) w.in_ok-post.ensures probed posts news,
+            probing-step id.config id.me st m k before after w.in_ok-post.field-0 c.loop-before.invariant.1
+                (sym w.if-is_probe_due.ensures) w.in_ok-post.ensures probed posts news,
           )
       | else-is_probe_due w ↦
           let more = probing-same id.config id.me st m k before c.loop-before.invariant.1 (sym w.if-is_probe_due.ensures) in (
