@@ -1,12 +1,18 @@
 //! What an honest server keeps. Each function has an empty body, and its contract is the law.
-ghost use Rattle.std.specs.Prelude.{◌≡◌, ℕ, suc, List, [], ◌∷◌, Some, IsOkAnd};
+ghost use Rattle.std.specs.Prelude.{◌≡◌, ℕ, suc, List, [], ◌∷◌, Some, Ok, IsOkAnd};
 ghost use Rattle.faust_types.specs.Clients.{IsClientCount, IsClient};
 ghost use Rattle.faust_types.specs.Ranges.{IsSubmitFor, IsCommitFor};
+ghost use Rattle.faust_types.specs.Versions.{Vector};
 ghost use Rattle.faust_types.specs.declared.message.Commit.{Commit};
+ghost use Rattle.faust_types.specs.declared.message.Reply.{Reply};
+ghost use Rattle.faust_types.specs.declared.operation.Operation.{Operation};
 ghost use Rattle.faust_server.specs.Rows.{State, first_state, committed, submitted};
+ghost use Rattle.faust_ustor.specs.Checks.{judged};
+ghost use Rattle.faust_ustor.specs.Passed.{told};
 ghost use Rattle.faust_lists.specs.Lists.{count, upto};
+ghost use Rattle.faust_lists.specs.Walks.{IsVersionOf};
 ghost use Rattle.faust_honest.specs.World.{World, IsCommitOf, submit_of};
-ghost use Rattle.faust_honest.specs.Honest.{next_submit, IsHonest, IsServedWell};
+ghost use Rattle.faust_honest.specs.Honest.{next_submit, IsHonest, IsAccepted, IsServedWell};
 
 /// A server that no message reached is honest.
 pub fn first_state_is_honest()
@@ -36,4 +42,12 @@ pub fn riding_submit_is_served_well()
         IsHonest n world st arrived handled → IsClient n i → IsSubmitFor n (submit_of world i (suc (count i arrived)) (Some commit)) →
         count i arrived ≡ suc (count i handled) → IsCommitOf n world i (upto i (count i arrived) arrived) commit →
         IsOkAnd (submitted st i (submit_of world i (suc (count i arrived)) (Some commit))) (IsServedWell n world i arrived (i ∷ handled)) }
+{}
+
+/// A client that takes a reply judges it to pass, and is told what the reply tells.
+pub fn accepted_reply_is_judged_to_pass()
+    ensures { (n : ℕ) (world : World) (i : ℕ) (arrived : List ℕ) (reply : Reply) (own : Vector) (op : Operation) →
+        IsAccepted n world i arrived reply → IsVersionOf n own (upto i (count i arrived) arrived) →
+        op.kind ≡ world.kind i (suc (count i arrived)) → op.register ≡ world.register i (suc (count i arrived)) →
+        judged world.key i own op reply ≡ Ok (told i reply) }
 {}
