@@ -1,0 +1,11 @@
+pub mod Members
+pub mod Found
+pub mod Made
+pub mod Settled
+pub mod Walked
+pub mod Completing
+pub mod Ordered
+pub mod Registers
+pub mod Grounds
+pub mod Answering
+pub mod Operations

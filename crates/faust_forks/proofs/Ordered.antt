@@ -1,0 +1,137 @@
+-- Versions are ordered as their forks are by being fronts, and the forks of one client go up.
+use Rattle.std.proofs.Common.{◌≡◌, ◌↔◌, ℕ, ◌<◌, ◌≤◌, true, List, Some, sym, ap, ◌∙◌, subst, inl, inr, arith}
+use Rattle.std.proofs.lemmas.Bool.{cases_lt, or_cases}
+use Rattle.faust_types.specs.Clients.{IsClient}
+use Rattle.faust_types.specs.Versions.{Vector, IsAtMost, clients_of, is_at_most, is_comparable}
+use Rattle.faust_types.proofs.Order.{is_at_most-means}
+use Rattle.faust_hash.specs.Chain.{chain_of}
+use Rattle.faust_lists.specs.Lists.{count, upto, last_to, AreAlong, EndsWith, IsTail}
+use Rattle.faust_lists.specs.Walks.{IsFree, IsVersionOf}
+use Rattle.faust_lists.proofs.Tails.{tail-antisym, tail-refl}
+use Rattle.faust_lists.proofs.Fronts.{last_to-ended, last_to-tail, upto-ended, upto-tail}
+use Rattle.faust_lists.proofs.Chains.{AreHashed-tail, chain_of-same}
+use Rattle.faust_lists.proofs.Versions.{at_most-tail, comparable-along}
+use Rattle.faust_forks.specs.Books.{Begun, Done, Completed, find}
+use Rattle.faust_forks.specs.Forks.{IsBook, IsFork, IsSettled}
+use Rattle.faust_forks.proofs.Found.{done-named, found-once}
+use Rattle.faust_forks.proofs.Settled.{ends-client, ends-counted}
+
+-- What the book knows of a completion of client k: its fork ends with k and counts as many of k as its number says.
+pub record IsOf (n k t : ℕ) (done : Done) : Type 0 where
+  pub client : IsClient n k
+  pub ends : EndsWith k done.fork
+  pub counted : count k done.fork ≡ t
+  pub some : 1 ≤ t
+
+pub found-of : (n : ℕ) (started : List Begun) (book : List Done) (hashed : List (List ℕ)) (k t : ℕ) (done : Done)
+    → IsBook n started book hashed → find book k t ≡ Some done → IsOf n k t done
+found-of n started book hashed k t done book_sound found =
+    let sound = book_sound k t done found in
+    let named = done-named book k t done found in
+    let ends : EndsWith k done.fork = subst (λ (z : ℕ). EndsWith z done.fork) named.is_client sound.ends in
+    let counted : count k done.fork ≡ t =
+    subst (λ (z : ℕ). count z done.fork ≡ done.number) named.is_client sound.counted ∙ named.is_number in
+    record {
+      client = ends-client n k done.fork sound.fork.clients ends;
+      ends = ends;
+      counted = counted;
+      some = omega (arith, counted, ends-counted k done.fork ends);
+    }
+
+-- a completion within a history, but not the last of its client there, has the front that ends with it as its fork,
+-- whatever its digests say
+pub front-within : (n : ℕ) (started : List Begun) (book : List Done) (hashed : List (List ℕ)) (k t : ℕ) (done : Done) (w : List ℕ)
+    → IsBook n started book hashed → find book k t ≡ Some done → IsSettled n book w → t < count k w → done.fork ≡ upto k t w
+front-within n started book hashed k t done w book_sound found settled within =
+    let of_k = found-of n started book hashed k t done book_sound found in
+    let there : Completed book k t (λ done. done.fork ≡ upto k t w) = settled k t of_k.client of_k.some within in
+    ap (λ (z : Done). z.fork) (found-once (find book k t) done there.done found there.found) ∙ there.fits_it
+
+-- where the version of a completion is at most that of a history, its fork is a front of the history
+pub tail-below : (n : ℕ) (started : List Begun) (book : List Done) (hashed : List (List ℕ)) (k t entry : ℕ) (done : Done) (x : Vector)
+    (w : List ℕ) → IsFree hashed → IsBook n started book hashed → find book k t ≡ Some done → IsFork n started book hashed entry w
+    → IsVersionOf n x w → IsAtMost done.version x → IsTail done.fork w
+tail-below n started book hashed k t entry done x w free book_sound found fork version below =
+    let sound = book_sound k t done found in
+    let of_k = found-of n started book hashed k t done book_sound found in
+    let k_in : IsClient (clients_of done.version) k =
+    record { from_one = of_k.client.from_one; to_n = omega (arith, of_k.client.to_n, sound.version.sized) } in
+    let mine = sound.version.timestamps k of_k.client in
+    let theirs = version.timestamps k of_k.client in
+    let le : count k done.fork ≤ count k w = omega (arith, below.timestamps k k_in, mine, theirs) in
+    elim (cases_lt t (count k w)) [
+      | inl within ↦
+          subst (λ (z : List ℕ). IsTail z w) (sym (front-within n started book hashed k t done w book_sound found fork.settled within))
+          (upto-tail k t w)
+      | inr at ↦
+          let digest = below.digests k k_in (omega (arith, mine, theirs, le, at, of_k.counted)) in
+          let chains : chain_of done.fork ≡ chain_of (last_to k w) =
+          ap chain_of (sym (last_to-ended k done.fork of_k.ends)) ∙ sym (sound.version.digests k of_k.client)
+          ∙ digest ∙ version.digests k of_k.client in
+          let same : done.fork ≡ last_to k w = chain_of-same hashed done.fork (last_to k w) free sound.fork.chains
+          (AreHashed-tail hashed (last_to k w) w fork.chains (last_to-tail k w)) chains in
+          subst (λ (z : List ℕ). IsTail z w) (sym same) (last_to-tail k w)
+    ]
+
+-- of two completions: the version of one is at most that of the other exactly where its fork is a front of the other's
+pub below-exactly : (n : ℕ) (started : List Begun) (book : List Done) (hashed : List (List ℕ)) (j s k t : ℕ) (x y : Done) → IsFree hashed
+    → IsBook n started book hashed → find book j s ≡ Some x → find book k t ≡ Some y
+    → IsAtMost x.version y.version ↔ IsTail x.fork y.fork
+below-exactly n started book hashed j s k t x y free book_sound in_x in_y =
+    let a = book_sound j s x in_x in
+    let b = book_sound k t y in_y in (
+      λ below. tail-below n started book hashed j s y.entry x y.version y.fork free book_sound in_x b.fork b.version below,
+      λ front. at_most-tail n x.version y.version x.fork y.fork a.version b.version front,
+    )
+
+-- they are comparable exactly where the forks stand in line
+pub comparable-exactly : (n : ℕ) (started : List Begun) (book : List Done) (hashed : List (List ℕ)) (j s k t : ℕ) (x y : Done)
+    → IsFree hashed → IsBook n started book hashed → find book j s ≡ Some x → find book k t ≡ Some y
+    → (is_comparable x.version y.version ≡ true) ↔ AreAlong x.fork y.fork
+comparable-exactly n started book hashed j s k t x y free book_sound in_x in_y =
+    let a = book_sound j s x in_x in
+    let b = book_sound k t y in_y in
+    let up = below-exactly n started book hashed j s k t x y free book_sound in_x in_y in
+    let down = below-exactly n started book hashed k t j s y x free book_sound in_y in_x in (
+      λ holds. elim (or_cases (is_at_most x.version y.version) (is_at_most y.version x.version) holds) [
+        | inl le ↦ inl (up.0 ((is_at_most-means x.version y.version).0 le))
+        | inr ge ↦ inr (down.0 ((is_at_most-means y.version x.version).0 ge))
+      ],
+      λ along. comparable-along n x.version y.version x.fork y.fork a.version b.version along,
+    )
+
+-- one version, one fork
+pub fork-same : (n : ℕ) (started : List Begun) (book : List Done) (hashed : List (List ℕ)) (j s k t : ℕ) (x y : Done) → IsFree hashed
+    → IsBook n started book hashed → find book j s ≡ Some x → find book k t ≡ Some y → x.version ≡ y.version → x.fork ≡ y.fork
+fork-same n started book hashed j s k t x y free book_sound in_x in_y same =
+    let a = book_sound j s x in_x in
+    let b = book_sound k t y in_y in
+    let below : IsAtMost x.version y.version = subst (λ (z : Vector). IsAtMost x.version z) same
+    (at_most-tail n x.version x.version x.fork x.fork a.version a.version (tail-refl x.fork)) in
+    let above : IsAtMost y.version x.version = subst (λ (z : Vector). IsAtMost z x.version) same
+    (at_most-tail n x.version x.version x.fork x.fork a.version a.version (tail-refl x.fork)) in
+    tail-antisym x.fork y.fork ((below-exactly n started book hashed j s k t x y free book_sound in_x in_y).0 below)
+    ((below-exactly n started book hashed k t j s y x free book_sound in_y in_x).0 above)
+
+-- the own forks of a client go up: each is the front of a later one that ends with its operation
+pub own-front : (n : ℕ) (started : List Begun) (book : List Done) (hashed : List (List ℕ)) (k s t : ℕ) (x y : Done)
+    → IsBook n started book hashed → find book k s ≡ Some x → find book k t ≡ Some y → s ≤ t → x.fork ≡ upto k s y.fork
+own-front n started book hashed k s t x y book_sound in_x in_y le =
+    let of_y = found-of n started book hashed k t y book_sound in_y in
+    let sound = book_sound k t y in_y in
+    elim (cases_lt s t) [
+      | inl lt ↦
+          front-within n started book hashed k s x y.fork book_sound in_x sound.fork.settled (omega (arith, lt, of_y.counted))
+      | inr ge ↦
+          let last : s ≡ t = omega (arith, le, ge) in
+          let here : find book k t ≡ Some x = subst (λ (z : ℕ). find book k z ≡ Some x) last in_x in
+          let same : x.fork ≡ y.fork = ap (λ (z : Done). z.fork) (found-once (find book k t) x y here in_y) in
+          let whole : upto k (count k y.fork) y.fork ≡ y.fork = upto-ended k y.fork y.fork of_y.ends (tail-refl y.fork) in
+          let counted : count k y.fork ≡ s = of_y.counted ∙ sym last in
+          same ∙ sym whole ∙ ap (λ (z : ℕ). upto k z y.fork) counted
+    ]
+
+pub own-grows : (n : ℕ) (started : List Begun) (book : List Done) (hashed : List (List ℕ)) (k s t : ℕ) (x y : Done)
+    → IsBook n started book hashed → find book k s ≡ Some x → find book k t ≡ Some y → s ≤ t → IsTail x.fork y.fork
+own-grows n started book hashed k s t x y book_sound in_x in_y le =
+    subst (λ (z : List ℕ). IsTail z y.fork) (sym (own-front n started book hashed k s t x y book_sound in_x in_y le)) (upto-tail k s y.fork)

@@ -1,0 +1,5 @@
+pub mod Books
+pub mod Sources
+pub mod Pairs
+pub mod Forks
+pub mod Answers
