@@ -1,5 +1,5 @@
 -- A body that was made tells what it was made of, and a right tag among checked pairs tells that its body was made.
-use Rattle.std.proofs.Common.{◌≡◌, ℕ, ◌+◌, ◌^◌, ◌<◌, Bool, true, false, cond, nat_lt, List, [], ◌∷◌, ◌++◌, Option, None, Some, refl, sym, ap, ◌∙◌, subst, inl, inr, arith}
+use Rattle.std.proofs.Common.{◌≡◌, ◌↔◌, ℕ, ◌+◌, ◌^◌, ◌<◌, Bool, true, false, cond, nat_lt, map, List, [], ◌∷◌, ◌++◌, Option, None, Some, refl, sym, ap, ◌∙◌, subst, inl, inr, arith}
 use Rattle.std.proofs.lemmas.Bool.{and_parts, or_cases, cond-true, true≢false}
 use Rattle.faust_types.specs.Versions.{Vector, digest_at, is_initial, timestamp_at}
 use Rattle.faust_types.specs.Ranges.{IsOperationNumber, IsPeerMessageFor, IsVersionFor}
@@ -17,7 +17,7 @@ use Rattle.faust_ustor.specs.declared.walk.Walk.{Walk}
 use Rattle.faust_ustor.specs.Checks.{advanced, digest_of, is_digest_proven, is_known_right, is_mem_right, is_next_submitted, proof_at}
 use Rattle.faust_ustor.specs.Passed.{AreTuplesPassed}
 use Rattle.faust_lists.specs.Names.{Has}
-use Rattle.faust_forks.specs.Sources.{Source, of_submit, of_data, of_commit, of_proof, of_peer, body_of, IsMade, IsSourceFor, AreSources}
+use Rattle.faust_forks.specs.Sources.{Source, of_submit, of_data, of_commit, of_proof, of_peer, body_of, IsMade, IsSent, IsSourceFor, AreSources}
 use Rattle.faust_forks.specs.Pairs.{Pair, known_pairs, proof_pairs, submit_pair, mem_pairs, tuple_pairs, peer_pair, AreMade}
 use Rattle.faust_forks.proofs.Members.{has-left, has-right}
 
@@ -30,13 +30,30 @@ pub IsMade-more : (made more : List Source) (body : List ℕ) → ((source : Sou
     → IsMade more body
 IsMade-more made more body grows h = record { source = h.source; in_made = grows h.source h.in_made; spelled = h.spelled }
 
+-- the bodies that were made are those of the sources
+pub body-has : (made : List Source) (source : Source) → Has made source → Has (map body_of made) (body_of source)
+body-has [] source has = absurd has
+body-has (x ∷ made) source (inl same) = inl (ap body_of same)
+body-has (x ∷ made) source (inr has) = inr (body-has made source has)
+
+pub has-body : (made : List Source) (body : List ℕ) → Has (map body_of made) body → IsMade made body
+has-body [] body has = absurd has
+has-body (x ∷ made) body (inl same) = record { source = x; in_made = inl refl; spelled = sym same }
+has-body (x ∷ made) body (inr has) = IsMade-more made (x ∷ made) body (λ source h. inr h) (has-body made body has)
+
+pub IsMade-exactly : (made : List Source) (body : List ℕ) → IsMade made body ↔ Has (map body_of made) body
+IsMade-exactly made body = (
+  λ h. subst (λ (z : List ℕ). Has (map body_of made) z) h.spelled (body-has made h.source h.in_made),
+  λ has. has-body made body has,
+)
+
 -- a number in range is below what eight bytes hold
 below_64 : (t : ℕ) → IsOperationNumber t → t < 2 ^ 64
 below_64 t number = omega (arith, number.below)
 
 -- of a submit body
-submit-from : (n : ℕ) (made : List Source) (k : ℕ) (kind : Kind) (register t : ℕ) (source : Source) → IsSourceFor n source → Has made source
-    → IsOperationNumber t → body_of source ≡ submit_body k kind register t → Has made (of_submit k kind register t)
+submit-from : (n : ℕ) (made : List Source) (k : ℕ) (kind : Kind) (register t : ℕ) (source : Source) → IsSourceFor n source
+    → Has made source → IsOperationNumber t → body_of source ≡ submit_body k kind register t → Has made (of_submit k kind register t)
 submit-from n made k kind register t (of_submit j other r u) range has number e =
     subst (λ (z : Source). Has made z)
     (ap (λ (x : ℕ). of_submit x other r u) (submit_maker j k other kind r register u t e)
@@ -108,14 +125,7 @@ proof-from made k digest (of_peer message) has e = absurd (proof_no_peer k diges
 pub made-proof : (made : List Source) (k : ℕ) (digest : List ℕ) → IsMade made (proof_body k digest) → Has made (of_proof k digest)
 made-proof made k digest h = proof-from made k digest h.source h.in_made h.spelled
 
--- of the body of a message between clients: one that was sent said the same, to the same client
-pub record IsSent (made : List Source) (message : PeerMessage) : Type 0 where
-  pub sent : PeerMessage
-  pub in_made : Has made (of_peer sent)
-  pub same_from : sent.from ≡ message.from
-  pub same_to : sent.to ≡ message.to
-  pub same_peer : sent.peer ≡ message.peer
-
+-- of the body of a message between clients
 peer-from : (n : ℕ) (made : List Source) (message : PeerMessage) (source : Source) → IsSourceFor n source → Has made source
     → IsPeerMessageFor n message → body_of source ≡ peer_body message → IsSent made message
 peer-from n made message (of_submit j kind r u) range has in_range e = absurd (submit_no_peer j kind r u message e)

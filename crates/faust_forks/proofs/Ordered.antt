@@ -12,6 +12,7 @@ use Rattle.faust_lists.proofs.Fronts.{last_to-ended, last_to-tail, upto-ended, u
 use Rattle.faust_lists.proofs.Chains.{AreHashed-tail, chain_of-same}
 use Rattle.faust_lists.proofs.Versions.{at_most-tail, comparable-along}
 use Rattle.faust_forks.specs.Books.{Begun, Done, Completed, find}
+use Rattle.faust_forks.specs.Pasts.{Past}
 use Rattle.faust_forks.specs.Forks.{IsBook, IsFork, IsSettled}
 use Rattle.faust_forks.proofs.Found.{done-named, found-once}
 use Rattle.faust_forks.proofs.Settled.{ends-client, ends-counted}
@@ -23,11 +24,11 @@ pub record IsOf (n k t : ℕ) (done : Done) : Type 0 where
   pub counted : count k done.fork ≡ t
   pub some : 1 ≤ t
 
-pub found-of : (n : ℕ) (started : List Begun) (book : List Done) (hashed : List (List ℕ)) (k t : ℕ) (done : Done)
-    → IsBook n started book hashed → find book k t ≡ Some done → IsOf n k t done
-found-of n started book hashed k t done book_sound found =
+pub found-of : (n : ℕ) (past : Past) (k t : ℕ) (done : Done)
+    → IsBook n past → find past.book k t ≡ Some done → IsOf n k t done
+found-of n past k t done book_sound found =
     let sound = book_sound k t done found in
-    let named = done-named book k t done found in
+    let named = done-named past.book k t done found in
     let ends : EndsWith k done.fork = subst (λ (z : ℕ). EndsWith z done.fork) named.is_client sound.ends in
     let counted : count k done.fork ≡ t =
     subst (λ (z : ℕ). count z done.fork ≡ done.number) named.is_client sound.counted ∙ named.is_number in
@@ -40,20 +41,20 @@ found-of n started book hashed k t done book_sound found =
 
 -- a completion within a history, but not the last of its client there, has the front that ends with it as its fork,
 -- whatever its digests say
-pub front-within : (n : ℕ) (started : List Begun) (book : List Done) (hashed : List (List ℕ)) (k t : ℕ) (done : Done) (w : List ℕ)
-    → IsBook n started book hashed → find book k t ≡ Some done → IsSettled n book w → t < count k w → done.fork ≡ upto k t w
-front-within n started book hashed k t done w book_sound found settled within =
-    let of_k = found-of n started book hashed k t done book_sound found in
-    let there : Completed book k t (λ done. done.fork ≡ upto k t w) = settled k t of_k.client of_k.some within in
-    ap (λ (z : Done). z.fork) (found-once (find book k t) done there.done found there.found) ∙ there.fits_it
+pub front-within : (n : ℕ) (past : Past) (k t : ℕ) (done : Done) (w : List ℕ)
+    → IsBook n past → find past.book k t ≡ Some done → IsSettled n past.book w → t < count k w → done.fork ≡ upto k t w
+front-within n past k t done w book_sound found settled within =
+    let of_k = found-of n past k t done book_sound found in
+    let there : Completed past.book k t (λ done. done.fork ≡ upto k t w) = settled k t of_k.client of_k.some within in
+    ap (λ (z : Done). z.fork) (found-once (find past.book k t) done there.done found there.found) ∙ there.fits_it
 
 -- where the version of a completion is at most that of a history, its fork is a front of the history
-pub tail-below : (n : ℕ) (started : List Begun) (book : List Done) (hashed : List (List ℕ)) (k t entry : ℕ) (done : Done) (x : Vector)
-    (w : List ℕ) → IsFree hashed → IsBook n started book hashed → find book k t ≡ Some done → IsFork n started book hashed entry w
+pub tail-below : (n : ℕ) (past : Past) (k t entry : ℕ) (done : Done) (x : Vector)
+    (w : List ℕ) → IsFree past.hashed → IsBook n past → find past.book k t ≡ Some done → IsFork n past entry w
     → IsVersionOf n x w → IsAtMost done.version x → IsTail done.fork w
-tail-below n started book hashed k t entry done x w free book_sound found fork version below =
+tail-below n past k t entry done x w free book_sound found fork version below =
     let sound = book_sound k t done found in
-    let of_k = found-of n started book hashed k t done book_sound found in
+    let of_k = found-of n past k t done book_sound found in
     let k_in : IsClient (clients_of done.version) k =
     record { from_one = of_k.client.from_one; to_n = omega (arith, of_k.client.to_n, sound.version.sized) } in
     let mine = sound.version.timestamps k of_k.client in
@@ -61,38 +62,38 @@ tail-below n started book hashed k t entry done x w free book_sound found fork v
     let le : count k done.fork ≤ count k w = omega (arith, below.timestamps k k_in, mine, theirs) in
     elim (cases_lt t (count k w)) [
       | inl within ↦
-          subst (λ (z : List ℕ). IsTail z w) (sym (front-within n started book hashed k t done w book_sound found fork.settled within))
+          subst (λ (z : List ℕ). IsTail z w) (sym (front-within n past k t done w book_sound found fork.settled within))
           (upto-tail k t w)
       | inr at ↦
           let digest = below.digests k k_in (omega (arith, mine, theirs, le, at, of_k.counted)) in
           let chains : chain_of done.fork ≡ chain_of (last_to k w) =
           ap chain_of (sym (last_to-ended k done.fork of_k.ends)) ∙ sym (sound.version.digests k of_k.client)
           ∙ digest ∙ version.digests k of_k.client in
-          let same : done.fork ≡ last_to k w = chain_of-same hashed done.fork (last_to k w) free sound.fork.chains
-          (AreHashed-tail hashed (last_to k w) w fork.chains (last_to-tail k w)) chains in
+          let same : done.fork ≡ last_to k w = chain_of-same past.hashed done.fork (last_to k w) free sound.fork.chains
+          (AreHashed-tail past.hashed (last_to k w) w fork.chains (last_to-tail k w)) chains in
           subst (λ (z : List ℕ). IsTail z w) (sym same) (last_to-tail k w)
     ]
 
 -- of two completions: the version of one is at most that of the other exactly where its fork is a front of the other's
-pub below-exactly : (n : ℕ) (started : List Begun) (book : List Done) (hashed : List (List ℕ)) (j s k t : ℕ) (x y : Done) → IsFree hashed
-    → IsBook n started book hashed → find book j s ≡ Some x → find book k t ≡ Some y
+pub below-exactly : (n : ℕ) (past : Past) (j s k t : ℕ) (x y : Done) → IsFree past.hashed
+    → IsBook n past → find past.book j s ≡ Some x → find past.book k t ≡ Some y
     → IsAtMost x.version y.version ↔ IsTail x.fork y.fork
-below-exactly n started book hashed j s k t x y free book_sound in_x in_y =
+below-exactly n past j s k t x y free book_sound in_x in_y =
     let a = book_sound j s x in_x in
     let b = book_sound k t y in_y in (
-      λ below. tail-below n started book hashed j s y.entry x y.version y.fork free book_sound in_x b.fork b.version below,
+      λ below. tail-below n past j s y.entry x y.version y.fork free book_sound in_x b.fork b.version below,
       λ front. at_most-tail n x.version y.version x.fork y.fork a.version b.version front,
     )
 
 -- they are comparable exactly where the forks stand in line
-pub comparable-exactly : (n : ℕ) (started : List Begun) (book : List Done) (hashed : List (List ℕ)) (j s k t : ℕ) (x y : Done)
-    → IsFree hashed → IsBook n started book hashed → find book j s ≡ Some x → find book k t ≡ Some y
+pub comparable-exactly : (n : ℕ) (past : Past) (j s k t : ℕ) (x y : Done)
+    → IsFree past.hashed → IsBook n past → find past.book j s ≡ Some x → find past.book k t ≡ Some y
     → (is_comparable x.version y.version ≡ true) ↔ AreAlong x.fork y.fork
-comparable-exactly n started book hashed j s k t x y free book_sound in_x in_y =
+comparable-exactly n past j s k t x y free book_sound in_x in_y =
     let a = book_sound j s x in_x in
     let b = book_sound k t y in_y in
-    let up = below-exactly n started book hashed j s k t x y free book_sound in_x in_y in
-    let down = below-exactly n started book hashed k t j s y x free book_sound in_y in_x in (
+    let up = below-exactly n past j s k t x y free book_sound in_x in_y in
+    let down = below-exactly n past k t j s y x free book_sound in_y in_x in (
       λ holds. elim (or_cases (is_at_most x.version y.version) (is_at_most y.version x.version) holds) [
         | inl le ↦ inl (up.0 ((is_at_most-means x.version y.version).0 le))
         | inr ge ↦ inr (down.0 ((is_at_most-means y.version x.version).0 ge))
@@ -101,37 +102,37 @@ comparable-exactly n started book hashed j s k t x y free book_sound in_x in_y =
     )
 
 -- one version, one fork
-pub fork-same : (n : ℕ) (started : List Begun) (book : List Done) (hashed : List (List ℕ)) (j s k t : ℕ) (x y : Done) → IsFree hashed
-    → IsBook n started book hashed → find book j s ≡ Some x → find book k t ≡ Some y → x.version ≡ y.version → x.fork ≡ y.fork
-fork-same n started book hashed j s k t x y free book_sound in_x in_y same =
+pub fork-same : (n : ℕ) (past : Past) (j s k t : ℕ) (x y : Done) → IsFree past.hashed
+    → IsBook n past → find past.book j s ≡ Some x → find past.book k t ≡ Some y → x.version ≡ y.version → x.fork ≡ y.fork
+fork-same n past j s k t x y free book_sound in_x in_y same =
     let a = book_sound j s x in_x in
     let b = book_sound k t y in_y in
     let below : IsAtMost x.version y.version = subst (λ (z : Vector). IsAtMost x.version z) same
     (at_most-tail n x.version x.version x.fork x.fork a.version a.version (tail-refl x.fork)) in
     let above : IsAtMost y.version x.version = subst (λ (z : Vector). IsAtMost z x.version) same
     (at_most-tail n x.version x.version x.fork x.fork a.version a.version (tail-refl x.fork)) in
-    tail-antisym x.fork y.fork ((below-exactly n started book hashed j s k t x y free book_sound in_x in_y).0 below)
-    ((below-exactly n started book hashed k t j s y x free book_sound in_y in_x).0 above)
+    tail-antisym x.fork y.fork ((below-exactly n past j s k t x y free book_sound in_x in_y).0 below)
+    ((below-exactly n past k t j s y x free book_sound in_y in_x).0 above)
 
 -- the own forks of a client go up: each is the front of a later one that ends with its operation
-pub own-front : (n : ℕ) (started : List Begun) (book : List Done) (hashed : List (List ℕ)) (k s t : ℕ) (x y : Done)
-    → IsBook n started book hashed → find book k s ≡ Some x → find book k t ≡ Some y → s ≤ t → x.fork ≡ upto k s y.fork
-own-front n started book hashed k s t x y book_sound in_x in_y le =
-    let of_y = found-of n started book hashed k t y book_sound in_y in
+pub own-front : (n : ℕ) (past : Past) (k s t : ℕ) (x y : Done)
+    → IsBook n past → find past.book k s ≡ Some x → find past.book k t ≡ Some y → s ≤ t → x.fork ≡ upto k s y.fork
+own-front n past k s t x y book_sound in_x in_y le =
+    let of_y = found-of n past k t y book_sound in_y in
     let sound = book_sound k t y in_y in
     elim (cases_lt s t) [
       | inl lt ↦
-          front-within n started book hashed k s x y.fork book_sound in_x sound.fork.settled (omega (arith, lt, of_y.counted))
+          front-within n past k s x y.fork book_sound in_x sound.fork.settled (omega (arith, lt, of_y.counted))
       | inr ge ↦
           let last : s ≡ t = omega (arith, le, ge) in
-          let here : find book k t ≡ Some x = subst (λ (z : ℕ). find book k z ≡ Some x) last in_x in
-          let same : x.fork ≡ y.fork = ap (λ (z : Done). z.fork) (found-once (find book k t) x y here in_y) in
+          let here : find past.book k t ≡ Some x = subst (λ (z : ℕ). find past.book k z ≡ Some x) last in_x in
+          let same : x.fork ≡ y.fork = ap (λ (z : Done). z.fork) (found-once (find past.book k t) x y here in_y) in
           let whole : upto k (count k y.fork) y.fork ≡ y.fork = upto-ended k y.fork y.fork of_y.ends (tail-refl y.fork) in
           let counted : count k y.fork ≡ s = of_y.counted ∙ sym last in
           same ∙ sym whole ∙ ap (λ (z : ℕ). upto k z y.fork) counted
     ]
 
-pub own-grows : (n : ℕ) (started : List Begun) (book : List Done) (hashed : List (List ℕ)) (k s t : ℕ) (x y : Done)
-    → IsBook n started book hashed → find book k s ≡ Some x → find book k t ≡ Some y → s ≤ t → IsTail x.fork y.fork
-own-grows n started book hashed k s t x y book_sound in_x in_y le =
-    subst (λ (z : List ℕ). IsTail z y.fork) (sym (own-front n started book hashed k s t x y book_sound in_x in_y le)) (upto-tail k s y.fork)
+pub own-grows : (n : ℕ) (past : Past) (k s t : ℕ) (x y : Done)
+    → IsBook n past → find past.book k s ≡ Some x → find past.book k t ≡ Some y → s ≤ t → IsTail x.fork y.fork
+own-grows n past k s t x y book_sound in_x in_y le =
+    subst (λ (z : List ℕ). IsTail z y.fork) (sym (own-front n past k s t x y book_sound in_x in_y le)) (upto-tail k s y.fork)

@@ -19,7 +19,8 @@ pub begun_to-more : (started more : List Begun) (k t : ℕ) → AreBegunIn start
 begun_to-more started more k t grows h = λ i one within. Began-more started more k i (λ begun. Unit {0}) grows (h i one within)
 
 -- what was written by operations that began stays
-pub written-more : (started more : List Begun) (k t : ℕ) → AreBegunIn started more → AreBegunTo started k t → written more k t ≡ written started k t
+pub written-more : (started more : List Begun) (k t : ℕ) → AreBegunIn started more → AreBegunTo started k t
+    → written more k t ≡ written started k t
 written-more started more k zero grows h = refl
 written-more started more k (suc t) grows h =
     let began = h (suc t) (omega arith) (omega arith) in
@@ -59,7 +60,8 @@ IsWritten-next started added before digest numbered none h is_digest =
     let found : find_begun more k (suc before) ≡ Some added = begun-first started added k (suc before) none_here refl numbered in
     let value : written more k (suc before) ≡ written_by added.kind added.value (written started k before) =
     ap (λ (z : Option Begun). written_after z (written more k before)) found
-    ∙ ap (λ (z : Option (List ℕ)). written_by added.kind added.value z) (written-more started more k before (begun-more started added) h) in
+    ∙ ap (λ (z : Option (List ℕ)). written_by added.kind added.value z)
+    (written-more started more k before (begun-more started added) h) in
     let whole : IsWritten more k (suc before) digest =
     record { begun_to = begun_to-next started added before numbered none h; is_digest = is_digest ∙ ap digest_of (sym value) } in
     subst (λ (z : ℕ). IsWritten more k z digest) (sym numbered) whole

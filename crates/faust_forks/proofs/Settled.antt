@@ -9,6 +9,7 @@ use Rattle.faust_lists.proofs.Tails.{count-tail, AreClients-tail}
 use Rattle.faust_lists.proofs.Fronts.{upto-stable}
 use Rattle.faust_lists.proofs.Chains.{AreHashed-more, AreHashed-tail}
 use Rattle.faust_forks.specs.Books.{Begun, Done, Began, Completed, AreBegunIn, AreDoneIn}
+use Rattle.faust_forks.specs.Pasts.{IsLater, Past}
 use Rattle.faust_forks.specs.Forks.{IsSettled, IsAnchored, AreBegun, IsFork, IsSound}
 use Rattle.faust_forks.proofs.Found.{Began-more, Began-less, Completed-more, Completed-less}
 
@@ -78,43 +79,41 @@ begun-cons n started entry k w h next = λ j t c one le.
     ]
 
 -- nothing is asked of the empty history
-pub fork-nil : (n : ℕ) (started : List Begun) (book : List Done) (hashed : List (List ℕ)) (entry : ℕ) → IsFork n started book hashed entry []
-fork-nil n started book hashed entry = record {
+pub fork-nil : (n : ℕ) (past : Past) (entry : ℕ) → IsFork n past entry []
+fork-nil n past entry = record {
   clients = tt;
   settled = λ k t c one lt. absurd (omega (arith, lt));
   begun_before = λ k t c one le. absurd (omega (arith, one, le));
   chains = tt;
 }
 
-pub fork-tail : (n : ℕ) (started : List Begun) (book : List Done) (hashed : List (List ℕ)) (entry : ℕ) (u w : List ℕ)
-    → IsFork n started book hashed entry w → IsTail u w → IsFork n started book hashed entry u
-fork-tail n started book hashed entry u w h front = record {
+pub fork-tail : (n : ℕ) (past : Past) (entry : ℕ) (u w : List ℕ) → IsFork n past entry w → IsTail u w → IsFork n past entry u
+fork-tail n past entry u w h front = record {
   clients = AreClients-tail n u w h.clients front;
-  settled = settled-tail n book u w h.settled front;
-  begun_before = begun-tail n started entry u w h.begun_before front;
-  chains = AreHashed-tail hashed u w h.chains front;
+  settled = settled-tail n past.book u w h.settled front;
+  begun_before = begun-tail n past.started entry u w h.begun_before front;
+  chains = AreHashed-tail past.hashed u w h.chains front;
 }
 
--- what is known stays known
-pub fork-more : (n : ℕ) (started started' : List Begun) (book book' : List Done) (hashed hashed' : List (List ℕ)) (entry entry' : ℕ)
-    (w : List ℕ) → AreBegunIn started started' → AreDoneIn book book' → ((x : List ℕ) → Has hashed x → Has hashed' x) → entry ≤ entry'
-    → IsFork n started book hashed entry w → IsFork n started' book' hashed' entry' w
-fork-more n started started' book book' hashed hashed' entry entry' w starts dones hashes later h = record {
+-- what an entry may know, a later one may know
+pub fork-later : (n : ℕ) (past later : Past) (entry next : ℕ) (w : List ℕ) → IsLater past later → entry ≤ next → IsFork n past entry w
+    → IsFork n later next w
+fork-later n past later entry next w grows le h = record {
   clients = h.clients;
-  settled = λ k t c one lt. Completed-more book book' k t (λ done. done.fork ≡ upto k t w) dones (h.settled k t c one lt);
-  begun_before = λ k t c one le.
-      Began-less started' k t (λ begun. begun.entry < entry) (λ begun. begun.entry < entry')
-      (λ begun before. omega (arith, before, later))
-      (Began-more started started' k t (λ begun. begun.entry < entry) starts (h.begun_before k t c one le));
-  chains = AreHashed-more hashed hashed' w hashes h.chains;
+  settled = λ k t c one lt.
+      Completed-more past.book later.book k t (λ done. done.fork ≡ upto k t w) grows.done_kept (h.settled k t c one lt);
+  begun_before = λ k t c one within.
+      Began-less later.started k t (λ begun. begun.entry < entry) (λ begun. begun.entry < next)
+      (λ begun before. omega (arith, before, le))
+      (Began-more past.started later.started k t (λ begun. begun.entry < entry) grows.begun_kept (h.begun_before k t c one within));
+  chains = AreHashed-more past.hashed later.hashed w grows.hashed_kept h.chains;
 }
 
-pub sound-more : (n : ℕ) (started started' : List Begun) (book book' : List Done) (hashed hashed' : List (List ℕ)) (done : Done)
-    → AreBegunIn started started' → AreDoneIn book book' → ((x : List ℕ) → Has hashed x → Has hashed' x)
-    → IsSound n started book hashed done → IsSound n started' book' hashed' done
-sound-more n started started' book book' hashed hashed' done starts dones hashes h = record {
+-- what is sound stays sound
+pub sound-later : (n : ℕ) (past later : Past) (done : Done) → IsLater past later → IsSound n past done → IsSound n later done
+sound-later n past later done grows h = record {
   ends = h.ends;
   counted = h.counted;
   version = h.version;
-  fork = fork-more n started started' book book' hashed hashed' done.entry done.entry done.fork starts dones hashes (omega arith) h.fork;
+  fork = fork-later n past later done.entry done.entry done.fork grows (omega arith) h.fork;
 }

@@ -37,5 +37,5 @@ pub record IsAnswered (started : List Begun) (register : ℕ) (done : Done) : Ty
 
 -- Each completed read does.
 abbrev pub AreAnswered : List Begun → List Done → Type 0
-AreAnswered started book = (k t : ℕ) (done : Done) (begun : Begun) → find book k t ≡ Some done → find_begun started k t ≡ Some begun
-    → begun.kind ≡ Read → IsAnswered started begun.register done
+AreAnswered started book = (k t : ℕ) (done : Done) (begun : Begun) → find book k t ≡ Some done
+    → find_begun started k t ≡ Some begun → begun.kind ≡ Read → IsAnswered started begun.register done

@@ -1,5 +1,6 @@
 pub mod Books
 pub mod Sources
 pub mod Pairs
-pub mod Forks
+pub mod Pasts
 pub mod Answers
+pub mod Forks

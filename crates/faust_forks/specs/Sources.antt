@@ -40,3 +40,11 @@ IsSourceFor n (of_peer message) = IsPeerMessageFor n message
 abbrev pub AreSources : ℕ → List Source → Type 0
 AreSources n [] = Unit {0}
 AreSources n (source ∷ made) = IsSourceFor n source × AreSources n made
+
+-- A message between clients was sent: one that says the same, from the same client to the same client.
+pub record IsSent (made : List Source) (message : PeerMessage) : Type 0 where
+  pub sent : PeerMessage
+  pub in_made : Has made (of_peer sent)
+  pub same_from : sent.from ≡ message.from
+  pub same_to : sent.to ≡ message.to
+  pub same_peer : sent.peer ≡ message.peer

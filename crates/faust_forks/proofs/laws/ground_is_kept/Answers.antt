@@ -1,4 +1,4 @@
-use Rattle.faust_forks.proofs.Grounds.{ground-first, ground-begun, ground-completed, ground-sent, ground-later}
+use Rattle.faust_forks.proofs.Grounds.{ground-first, ground-begun, ground-completed, ground-sent, ground-hashed}
 use Rattle.faust_forks.proofs.laws.ground_is_kept.Goals as goal
 
 pub returns-clause-first : goal.returns-clause-first
@@ -14,4 +14,4 @@ pub returns-clause-sends : goal.returns-clause-sends
 returns-clause-sends c = ground-sent
 
 pub returns-clause-hashes : goal.returns-clause-hashes
-returns-clause-hashes c = ground-later
+returns-clause-hashes c = ground-hashed

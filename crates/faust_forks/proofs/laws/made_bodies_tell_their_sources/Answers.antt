@@ -1,4 +1,4 @@
-use Rattle.faust_forks.proofs.Made.{made-submit, made-data, made-commit, made-proof}
+use Rattle.faust_forks.proofs.Made.{made-submit, made-data, made-commit, made-proof, made-peer}
 use Rattle.faust_forks.proofs.laws.made_bodies_tell_their_sources.Goals as goal
 
 pub returns-clause-submit : goal.returns-clause-submit
@@ -12,3 +12,6 @@ returns-clause-commit c = made-commit
 
 pub returns-clause-proof : goal.returns-clause-proof
 returns-clause-proof c = made-proof
+
+pub returns-clause-peer : goal.returns-clause-peer
+returns-clause-peer c = made-peer
