@@ -8,85 +8,55 @@ use std::test::Fail;
 
 const REPLY: &[u8] = &[1, 2, 1, 0, 0, 0, 0, 0];
 
-/// What a stream gives: its frames, and then that it ends or fails.
-#[derive(Clone, Copy)]
-struct Case<'a> {
-    stream: &'a [u8],
-    frames: &'a [&'a [u8]],
+/// Takes the frames of a stream whose reads give at most `most` bytes, none where one is empty here, and asks
+/// twice more behind the last.
+fn check_stream(
+    rt: &(impl Abort + AllocGlobal),
+    stream: &[u8],
+    most: usize,
+    frames: [&[u8]; 2],
     last: Result<Got, LinkError>,
-}
-
-/// Takes all frames of a stream whose reads give at most `most` bytes, and asks twice more behind the last.
-fn check_stream(rt: &(impl Abort + AllocGlobal), case: &Case<'_>, most: usize) -> Result<(), Fail> {
+) -> Result<(), Fail> {
     assert!(rt; most > 0);
-    let source = MemSource::new(rt.alloc(), case.stream, most, &[])?;
+    let source = MemSource::new(rt.alloc(), stream, most, &[])?;
     let mut reader = FrameReader::new(rt.alloc(), source)?;
     let mut into = Bytes::new(rt.alloc());
-    for frame in case.frames {
-        assert_eq!(rt; reader.recv(&mut into), Ok(Got::Frame), "at {most} a read");
-        assert_eq!(rt; into.as_slice(), *frame, "at {most} a read");
+    for frame in frames {
+        if !frame.is_empty() {
+            assert_eq!(rt; reader.recv(&mut into), Ok(Got::Frame));
+            assert_eq!(rt; into.as_slice(), frame);
+        }
     }
-    assert_eq!(rt; reader.recv(&mut into), case.last, "at {most} a read");
-    assert_eq!(rt; reader.recv(&mut into), case.last, "at {most} a read");
-    let twice = if case.last.is_ok() { (2, 0) } else { (0, 2) };
-    assert_eq!(rt; (reader.ends(), reader.faults()), twice);
+    assert_eq!(rt; reader.recv(&mut into), last);
+    assert_eq!(rt; reader.recv(&mut into), last);
+    let counts = if last.is_ok() { (2, 0) } else { (0, 2) };
+    assert_eq!(rt; (reader.ends(), reader.faults()), counts);
     Ok(())
 }
 
 #[test]
 fn frames_come_out_however_a_stream_is_cut(rt: HostRuntime) -> Result<(), Fail> {
-    let failed = Err(LinkError::Failed);
     let ended = Ok(Got::Ended);
-    let cases = [
-        Case {
-            stream: &[0, 0, 0, 8, 1, 2, 1, 0, 0, 0, 0, 0],
-            frames: &[REPLY],
-            last: ended,
-        },
-        Case {
-            stream: &[0, 0, 0, 1, 7, 0, 0, 0, 2, 8, 9],
-            frames: &[&[7], &[8, 9]],
-            last: ended,
-        },
-        Case {
-            stream: &[],
-            frames: &[],
-            last: ended,
-        },
-        Case {
-            stream: &[0, 0, 0x40, 1],
-            frames: &[],
-            last: failed,
-        },
-        Case {
-            stream: &[0, 0],
-            frames: &[],
-            last: failed,
-        },
-        Case {
-            stream: &[0, 0, 0, 0, 5],
-            frames: &[],
-            last: failed,
-        },
-        Case {
-            stream: &[1, 0, 0, 1, 5],
-            frames: &[],
-            last: failed,
-        },
-        Case {
-            stream: &[0, 0, 0, 1, 7, 0, 0, 0, 2, 8],
-            frames: &[&[7]],
-            last: failed,
-        },
-        Case {
-            stream: &[0, 0, 0, 1, 7, 0, 0, 0, 2],
-            frames: &[&[7]],
-            last: failed,
-        },
+    let failed = Err(LinkError::Failed);
+    let cases: [(&[u8], &[u8], &[u8], Result<Got, LinkError>); 9] = [
+        (
+            b"\x00\x00\x00\x08\x01\x02\x01\x00\x00\x00\x00\x00",
+            REPLY,
+            b"",
+            ended,
+        ),
+        (b"\x00\x00\x00\x01a\x00\x00\x00\x02bc", b"a", b"bc", ended),
+        (b"", b"", b"", ended),
+        (b"\x00\x00\x40\x01", b"", b"", failed),
+        (b"\x00\x00", b"", b"", failed),
+        (b"\x00\x00\x00\x00a", b"", b"", failed),
+        (b"\x01\x00\x00\x01a", b"", b"", failed),
+        (b"\x00\x00\x00\x01a\x00\x00\x00\x02b", b"a", b"", failed),
+        (b"\x00\x00\x00\x01a\x00\x00\x00\x02", b"a", b"", failed),
     ];
-    for case in &cases {
+    for (stream, first, second, last) in cases {
         for most in [1, 2, 3, 4, 5, 7, 100] {
-            check_stream(&rt, case, most)?;
+            check_stream(&rt, stream, most, [first, second], last)?;
         }
     }
     Ok(())

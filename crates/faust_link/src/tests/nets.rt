@@ -1,70 +1,83 @@
 use crate::{FrameIn, FrameOut, Got, LinkError, MemNet, Net, PostIn, PostOut};
 use faust_types::Bytes;
 use std::alloc::Global;
+use std::process::Abort;
 use std::test::Fail;
 use std::thread;
 
-/// What the server got of a client.
+/// What came out of a stream: the frames joined, with a point behind each, and the last answer.
 #[derive(Debug, Drop)]
 struct Heard {
-    frames: Vec<Vec<u8>>,
+    text: Bytes,
     last: Result<Got, LinkError>,
 }
 
 /// Takes frames until none comes.
 fn hear<I: FrameIn>(alloc: Global, link: &mut I) -> Result<Heard, Fail> {
-    let mut frames = Vec::new(alloc);
+    let mut text = Bytes::new(alloc);
     let mut into = Bytes::new(alloc);
     for _ in 0..100 {
         let got = link.recv(&mut into);
         if got != Ok(Got::Frame) {
-            return Ok(Heard { frames, last: got });
+            return Ok(Heard { text, last: got });
         }
-        frames.push(Vec::from_slice(alloc, into.as_slice())?)?;
+        text.append(into.as_slice())?;
+        text.push(b'.')?;
     }
     Ok(Heard {
-        frames,
+        text,
         last: Ok(Got::Idle),
     })
 }
 
+/// Takes frames up to the end of a stream, and compares them.
+fn check_heard<I: FrameIn>(
+    rt: &(impl Abort + AllocGlobal),
+    link: &mut I,
+    expected: &[u8],
+) -> Result<(), Fail> {
+    let heard = hear(rt.alloc(), link)?;
+    assert_eq!(rt; heard.text.as_slice(), expected);
+    assert_eq!(rt; heard.last, Ok(Got::Ended));
+    Ok(())
+}
+
+/// Sends two frames of two letters.
+fn send_two<O: FrameOut>(link: &mut O) -> bool {
+    link.send(b"ab").is_ok() && link.send(b"cd").is_ok()
+}
+
 #[test]
 fn streams_in_memory_carry_their_frames_both_ways(rt: HostRuntime) -> Result<(), Fail> {
-    let alloc = rt.alloc();
-    let mut net = MemNet::new(&rt, alloc, 2, &[2], &[])?;
-    assert_eq!(rt; net.listen(2), Ok(()));
+    let mut net = MemNet::new(&rt, rt.alloc(), 2, &[], &[])?;
     let Ok((mut client_in, mut client_out)) = net.connect(1) else {
+        panic!(rt; "the connect fails");
+    };
+    let Ok((mut server_in, mut server_out)) = net.accept() else {
+        panic!(rt; "no stream was connected");
+    };
+    assert!(rt; send_two(&mut client_out) && send_two(&mut server_out));
+    client_out.close();
+    server_out.close();
+    check_heard(&rt, &mut server_in, b"ab.cd.")?;
+    check_heard(&rt, &mut client_in, b"ab.cd.")
+}
+
+#[test]
+fn a_net_counts_what_fails_and_what_comes_back(rt: HostRuntime) -> Result<(), Fail> {
+    let mut net = MemNet::new(&rt, rt.alloc(), 2, &[2], &[])?;
+    assert_eq!(rt; net.listen(2), Ok(()));
+    let Ok((client_in, mut client_out)) = net.connect(1) else {
         panic!(rt; "the first connect fails");
     };
     assert!(rt; net.connect(2).is_err());
     assert_eq!(rt; net.faults(), 1);
-    let Ok((mut server_in, mut server_out)) = net.accept() else {
-        panic!(rt; "no stream was connected");
-    };
-    assert!(rt; net.accept().is_err());
-
-    assert_eq!(rt; client_out.send(&[1]), Ok(()));
-    assert_eq!(rt; client_out.send(&[2, 3]), Ok(()));
     client_out.close();
-    assert_eq!(rt; client_out.send(&[4]), Err(LinkError::Failed));
-    let heard = hear(alloc, &mut server_in)?;
-    assert_eq!(rt; heard.frames.len(), 2);
-    assert_eq!(rt; heard.frames[0].as_slice(), [1].as_slice());
-    assert_eq!(rt; heard.frames[1].as_slice(), [2, 3].as_slice());
-    assert_eq!(rt; heard.last, Ok(Got::Ended));
-
-    assert_eq!(rt; server_out.send(&[5]), Ok(()));
-    server_out.close();
-    let heard = hear(alloc, &mut client_in)?;
-    assert_eq!(rt; heard.frames.len(), 1);
-    assert_eq!(rt; (server_in.ends(), client_in.ends()), (1, 1));
-
-    let before = net.faults();
+    assert_eq!(rt; client_out.send(b"ab"), Err(LinkError::Failed));
     net.back_in(client_in);
-    net.back_out(server_out);
-    assert_eq!(rt; net.faults(), before);
+    assert_eq!(rt; net.faults(), 1);
     net.back_out(client_out);
-    assert_eq!(rt; net.faults(), before + 1);
+    assert_eq!(rt; net.faults(), 2);
     Ok(())
 }
 
@@ -82,22 +95,20 @@ fn a_receiver_waits_for_what_another_thread_sends(rt: HostRuntime) -> Result<(),
         &rt,
         move || hear(alloc, &mut server_in),
         move || {
-            let sent = client_out.send(&[1]).is_ok() && client_out.send(&[2]).is_ok();
+            let sent = send_two(&mut client_out);
             client_out.close();
             sent
         },
     );
     assert!(rt; sent);
     let heard = heard?;
-    assert_eq!(rt; heard.frames.len(), 2);
-    assert_eq!(rt; heard.last, Ok(Got::Ended));
+    assert_eq!(rt; heard.text.as_slice(), b"ab.cd.".as_slice());
     Ok(())
 }
 
 #[test]
 fn a_net_changes_the_frames_that_it_is_to_change(rt: HostRuntime) -> Result<(), Fail> {
-    let alloc = rt.alloc();
-    let mut net = MemNet::new(&rt, alloc, 2, &[], &[])?;
+    let mut net = MemNet::new(&rt, rt.alloc(), 2, &[], &[])?;
     net.flip(1, true, 2)?;
     net.flip(1, false, 1)?;
     let Ok((mut client_in, mut client_out)) = net.connect(1) else {
@@ -106,55 +117,33 @@ fn a_net_changes_the_frames_that_it_is_to_change(rt: HostRuntime) -> Result<(), 
     let Ok((mut server_in, mut server_out)) = net.accept() else {
         panic!(rt; "no stream was connected");
     };
-    for frame in [[7, 0], [8, 0], [9, 0]] {
-        assert_eq!(rt; client_out.send(&frame), Ok(()));
-    }
-    assert_eq!(rt; server_out.send(&[3]), Ok(()));
+    assert!(rt; send_two(&mut client_out) && send_two(&mut server_out));
     client_out.close();
     server_out.close();
-    let up = hear(alloc, &mut server_in)?;
-    assert_eq!(rt; up.frames.len(), 3);
-    assert_eq!(rt; up.frames[0].as_slice(), [7, 0].as_slice());
-    assert_eq!(rt; up.frames[1].as_slice(), [8, 1].as_slice());
-    assert_eq!(rt; up.frames[2].as_slice(), [9, 0].as_slice());
-    let down = hear(alloc, &mut client_in)?;
-    assert_eq!(rt; down.frames.len(), 1);
-    assert_eq!(rt; down.frames[0].as_slice(), [2].as_slice());
-    assert_eq!(rt; net.faults(), 0);
-    Ok(())
+    check_heard(&rt, &mut server_in, b"ab.ce.")?;
+    check_heard(&rt, &mut client_in, b"ac.cd.")
 }
 
 #[test]
 fn first_frames_come_once_all_have_met(rt: HostRuntime) -> Result<(), Fail> {
-    let alloc = rt.alloc();
-    let mut net = MemNet::new(&rt, alloc, 2, &[], &[])?;
+    let mut net = MemNet::new(&rt, rt.alloc(), 1, &[], &[])?;
     net.meet();
-    let (Ok((mut first_in, mut first_out)), Ok((_second_in, mut second_out))) = (
-        net.connect(1),
-        net.connect(2),
-    ) else {
-        panic!(rt; "a connect fails");
+    let Ok((mut client_in, mut client_out)) = net.connect(1) else {
+        panic!(rt; "the connect fails");
     };
     let Ok((_server_in, mut server_out)) = net.accept() else {
         panic!(rt; "no stream was connected");
     };
-    for link in [&mut first_out, &mut second_out] {
-        assert_eq!(rt; link.send(&[1]), Ok(()));
-        assert_eq!(rt; link.send(&[2]), Ok(()));
-    }
-    assert_eq!(rt; server_out.send(&[3]), Ok(()));
+    assert!(rt; send_two(&mut server_out) && send_two(&mut client_out));
     server_out.close();
-    let heard = hear(alloc, &mut first_in)?;
-    assert_eq!(rt; heard.frames.len(), 1);
-    assert_eq!(rt; heard.last, Ok(Got::Ended));
-    Ok(())
+    check_heard(&rt, &mut client_in, b"ab.cd.")
 }
 
 #[test]
 fn datagrams_are_lost_repeated_and_overtaken_by_the_list(rt: HostRuntime) -> Result<(), Fail> {
     let mut net = MemNet::new(&rt, rt.alloc(), 2, &[], &[0, 1, 2, 3, 0, 3])?;
-    let (Ok((mut inbox, _outbox)), Ok((_inbox, mut outbox))) = (net.post(2), net.post(1)) else {
-        panic!(rt; "a post fails");
+    let Ok((mut inbox, mut outbox)) = net.post(2) else {
+        panic!(rt; "the post fails");
     };
     for letter in [b'a', b'b', b'c', b'd', b'e', b'f'] {
         assert_eq!(rt; outbox.give(2, &[letter]), Ok(()));
