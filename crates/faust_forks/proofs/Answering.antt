@@ -20,7 +20,7 @@ use Rattle.faust_lists.specs.Names.{Has}
 use Rattle.faust_lists.specs.Walks.{IsVersionOf}
 use Rattle.faust_lists.proofs.Counts.{count-other}
 use Rattle.faust_forks.specs.Books.{Begun, Done, AreBegunIn, find_begun}
-use Rattle.faust_forks.specs.Sources.{Source, of_data}
+use Rattle.faust_forks.specs.Sources.{of_data}
 use Rattle.faust_forks.specs.Pairs.{AreMade, known_pairs, mem_pairs, read_pairs, tuple_pairs}
 use Rattle.faust_forks.specs.Answers.{AreAnswered, AreBegunTo, IsAnswered, IsWritten, written}
 use Rattle.faust_forks.specs.Pasts.{Past, done_at, fork_after}

@@ -17,8 +17,8 @@ use Rattle.faust_lists.specs.Walks.{IsVersionOf, IsWalkOf}
 use Rattle.faust_lists.proofs.Counts.{count-own}
 use Rattle.faust_lists.proofs.Fronts.{last_to-ended, last_to-same}
 use Rattle.faust_lists.proofs.Versions.{IsVersionOf-initial, IsVersionOf-next, IsWalkOf-begun, IsWalkOf-followed, tail-after}
-use Rattle.faust_forks.specs.Books.{Begun, Done, Began, Completed, find}
-use Rattle.faust_forks.specs.Sources.{Source, of_commit}
+use Rattle.faust_forks.specs.Books.{Done, Began, Completed, find}
+use Rattle.faust_forks.specs.Sources.{of_commit}
 use Rattle.faust_forks.specs.Pairs.{AreMade, known_pairs, read_pairs, tuple_pairs}
 use Rattle.faust_forks.specs.Pasts.{Past, base_of, done_at, fork_of}
 use Rattle.faust_forks.specs.Forks.{IsAccepted, IsAnchored, IsFork, IsGround, IsSound}

@@ -1,6 +1,6 @@
 -- What holds before an entry holds behind it: where an operation begins or completes, where a message goes to another
 -- client, and where more is hashed.
-use Rattle.std.proofs.Common.{◌≡◌, ℕ, ◌+◌, ◌^◌, ◌<◌, ◌≤◌, suc, List, [], ◌∷◌, Option, None, Some, IfSome, refl, sym, ap, ◌∙◌, subst, inl, inr, arith}
+use Rattle.std.proofs.Common.{◌≡◌, ℕ, ◌+◌, ◌^◌, ◌<◌, ◌≤◌, List, [], ◌∷◌, Option, None, Some, IfSome, refl, sym, ap, ◌∙◌, subst, inl, inr, arith}
 use Rattle.faust_types.specs.Ranges.{IsPeerMessageFor}
 use Rattle.faust_types.specs.Versions.{Vector, digest_at, initial, timestamp_at}
 use Rattle.faust_types.specs.declared.message.PeerMessage.{PeerMessage}
@@ -12,10 +12,9 @@ use Rattle.faust_ustor.specs.Passed.{clients_after, next_of}
 use Rattle.faust_lists.specs.Names.{Has}
 use Rattle.faust_lists.specs.Walks.{IsFree}
 use Rattle.faust_lists.proofs.Counts.{last_to-own}
-use Rattle.faust_forks.specs.Books.{Begun, Done, AreBegunIn, AreDoneIn, find, find_begun}
+use Rattle.faust_forks.specs.Books.{Begun, Done, AreBegunIn, AreDoneIn, find}
 use Rattle.faust_forks.specs.Sources.{Source, of_commit, of_data, of_peer, of_proof, of_submit}
 use Rattle.faust_forks.specs.Pasts.{IsLater, Past, base_of, begun_at, begun_in, completed_in, done_at, first_past, hashed_in, sent_in}
-use Rattle.faust_forks.specs.Answers.{IsWritten}
 use Rattle.faust_forks.specs.Forks.{IsAccepted, IsBegin, IsBook, IsExplained, IsGround, IsOwn, IsSound}
 use Rattle.faust_forks.proofs.Found.{Began-more, Completed-more, begun-cases, begun-first, done-cases, done-first, done-more, done-none}
 use Rattle.faust_forks.proofs.Later.{later-begun, later-completed, later-hashed, later-sent}

@@ -1,5 +1,5 @@
 -- What entries left stays as more of them come.
-use Rattle.std.proofs.Common.{◌≡◌, ℕ, ◌≤◌, List, ◌∷◌, Option, inr, arith}
+use Rattle.std.proofs.Common.{ℕ, ◌≤◌, List, Option, inr, arith}
 use Rattle.faust_types.specs.declared.message.PeerMessage.{PeerMessage}
 use Rattle.faust_types.specs.declared.message.Reply.{Reply}
 use Rattle.faust_types.specs.declared.operation.Operation.{Operation}

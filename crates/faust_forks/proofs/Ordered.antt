@@ -11,7 +11,7 @@ use Rattle.faust_lists.proofs.Tails.{tail-antisym, tail-refl}
 use Rattle.faust_lists.proofs.Fronts.{last_to-ended, last_to-tail, upto-ended, upto-tail}
 use Rattle.faust_lists.proofs.Chains.{AreHashed-tail, chain_of-same}
 use Rattle.faust_lists.proofs.Versions.{at_most-tail, comparable-along}
-use Rattle.faust_forks.specs.Books.{Begun, Done, Completed, find}
+use Rattle.faust_forks.specs.Books.{Done, Completed, find}
 use Rattle.faust_forks.specs.Pasts.{Past}
 use Rattle.faust_forks.specs.Forks.{IsBook, IsFork, IsSettled}
 use Rattle.faust_forks.proofs.Found.{done-named, found-once}

@@ -3,12 +3,11 @@ use Rattle.std.proofs.Common.{◌≡◌, ℕ, ◌<◌, ◌≤◌, suc, List, [],
 use Rattle.std.proofs.lemmas.Bool.{cases_eq, cases_lt}
 use Rattle.faust_types.specs.Clients.{IsClient}
 use Rattle.faust_lists.specs.Lists.{count, upto, last_to, IsTail, AreClients, EndsWith}
-use Rattle.faust_lists.specs.Names.{Has}
 use Rattle.faust_lists.proofs.Counts.{count-own, count-other, upto-more}
 use Rattle.faust_lists.proofs.Tails.{count-tail, AreClients-tail}
 use Rattle.faust_lists.proofs.Fronts.{upto-stable}
 use Rattle.faust_lists.proofs.Chains.{AreHashed-more, AreHashed-tail}
-use Rattle.faust_forks.specs.Books.{Begun, Done, Began, Completed, AreBegunIn, AreDoneIn}
+use Rattle.faust_forks.specs.Books.{Begun, Done, Began, Completed}
 use Rattle.faust_forks.specs.Pasts.{IsLater, Past}
 use Rattle.faust_forks.specs.Forks.{IsSettled, IsAnchored, AreBegun, IsFork, IsSound}
 use Rattle.faust_forks.proofs.Found.{Began-more, Began-less, Completed-more, Completed-less}

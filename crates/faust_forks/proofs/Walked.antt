@@ -20,8 +20,8 @@ use Rattle.faust_lists.proofs.Counts.{count-other}
 use Rattle.faust_lists.proofs.Fronts.{count-last_to, last_to-ended, last_to-ends, last_to-tail}
 use Rattle.faust_lists.proofs.Chains.{AreHashed-tail, chain_of-same}
 use Rattle.faust_lists.proofs.Versions.{IsWalkOf-advanced}
-use Rattle.faust_forks.specs.Books.{Begun, Done, Began, Came, Completed, find}
-use Rattle.faust_forks.specs.Sources.{Source, of_proof, of_submit}
+use Rattle.faust_forks.specs.Books.{Done, Began, Came, Completed, find}
+use Rattle.faust_forks.specs.Sources.{of_proof, of_submit}
 use Rattle.faust_forks.specs.Pairs.{AreMade, Pair, proof_pairs, tuple_pairs}
 use Rattle.faust_forks.specs.Pasts.{Past}
 use Rattle.faust_forks.specs.Forks.{IsAnchored, IsBook, IsFork, IsGround}

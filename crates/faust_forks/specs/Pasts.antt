@@ -1,11 +1,13 @@
 -- What the entries of a run left behind them, and how one more adds to it. A promise on forks, views and cuts rests on
 -- this file.
-use Rattle.std.specs.Prelude.{ℕ, ◌≤◌, suc, cond, List, [], ◌∷◌, Option, None, Some}
-use Rattle.faust_types.specs.Versions.{is_initial, timestamp_at}
+use Rattle.std.specs.Prelude.{ℕ, ◌+◌, ◌≤◌, suc, cond, List, [], ◌∷◌, Option, None, Some}
+use Rattle.faust_types.specs.Versions.{Vector, is_initial, timestamp_at}
+use Rattle.faust_types.specs.declared.operation.OpName.{OpName}
 use Rattle.faust_types.specs.declared.operation.Operation.{Operation}
 use Rattle.faust_types.specs.declared.message.PeerMessage.{PeerMessage}
 use Rattle.faust_types.specs.declared.message.Reply.{Reply}
 use Rattle.faust_ustor.specs.Passed.{clients_after, next_of, told}
+use Rattle.faust_lists.specs.Lists.{count}
 use Rattle.faust_lists.specs.Names.{Has}
 use Rattle.faust_forks.specs.Books.{AreBegunIn, AreDoneIn, Begun, Done, find}
 use Rattle.faust_forks.specs.Sources.{Source, of_commit, of_data, of_peer, of_proof, of_submit}
@@ -36,6 +38,11 @@ base_of book reply = cond (is_initial reply.version.version) []
 -- operation.
 abbrev pub fork_after : List Done → ℕ → Reply → List ℕ
 fork_after book me reply = me ∷ clients_after (base_of book reply) reply.pending
+
+-- The names of operations that come after a version: numbered by counting on from its timestamps.
+abbrev pub names_since : Vector → List ℕ → List OpName
+names_since v [] = []
+names_since v (k ∷ w) = record { client = k; t = suc (timestamp_at v k + count k w) } ∷ names_since v w
 
 -- Client me begins an operation, a write of a value or a read; and completes it by a reply that breaks no check.
 abbrev pub begun_at : Past → ℕ → Operation → Option (List ℕ) → Begun

@@ -1,5 +1,5 @@
 //! What completions keep. Each function has an empty body, and its contract is the law.
-ghost use Rattle.std.specs.Prelude.{◌≡◌, ◌↔◌, ℕ, ◌<◌, ◌≤◌, true, List, ◌∷◌, Option, Some};
+ghost use Rattle.std.specs.Prelude.{◌≡◌, ◌↔◌, ℕ, ◌<◌, ◌≤◌, true, List, [], ◌∷◌, ◌++◌, Option, Some};
 ghost use Rattle.faust_types.specs.Ranges.{IsOperationNumber, IsPeerMessageFor, IsVersionFor};
 ghost use Rattle.faust_types.specs.Versions.{Vector, IsAtMost, digest_at, is_comparable};
 ghost use Rattle.faust_types.specs.declared.operation.Kind.{Kind};
@@ -9,13 +9,13 @@ ghost use Rattle.faust_types.specs.declared.operation.OpName.{OpName};
 ghost use Rattle.faust_types.specs.declared.message.PeerMessage.{PeerMessage};
 ghost use Rattle.faust_types.specs.declared.message.Reply.{Reply};
 ghost use Rattle.faust_tags.specs.Bodies.{commit_body, data_body, peer_body, proof_body, submit_body};
-ghost use Rattle.faust_ustor.specs.Passed.{next_of};
+ghost use Rattle.faust_ustor.specs.Passed.{clients_after, next_of};
 ghost use Rattle.faust_lists.specs.Lists.{count, upto, AreAlong, IsTail};
 ghost use Rattle.faust_lists.specs.Names.{AreDistinct, Has, names};
 ghost use Rattle.faust_lists.specs.Walks.{IsFree, IsVersionOf};
 ghost use Rattle.faust_forks.specs.Books.{Begun, Done, Began, Completed, find};
 ghost use Rattle.faust_forks.specs.Sources.{AreSources, IsMade, IsSent, Source, of_commit, of_data, of_proof, of_submit};
-ghost use Rattle.faust_forks.specs.Pasts.{IsLater, Past, begun_in, completed_in, done_at, first_past, hashed_in, sent_in};
+ghost use Rattle.faust_forks.specs.Pasts.{IsLater, Past, base_of, begun_in, completed_in, done_at, first_past, fork_after, hashed_in, names_since, sent_in};
 ghost use Rattle.faust_forks.specs.Answers.{AreAnswered, IsAnswered};
 ghost use Rattle.faust_forks.specs.Forks.{IsAccepted, IsBegin, IsBook, IsGround, IsOwn, IsSound};
 
@@ -82,6 +82,14 @@ pub fn fork_tells_its_operations()
     ensures completed { (n : ℕ) (past : Past) (k t : ℕ) (done : Done) (a b : OpName) → IsBook n past →
         find past.book k t ≡ Some done → Has (names done.fork) a → Has (names done.fork) b → a.client ≡ b.client → a.t < b.t →
         Completed past.book a.client a.t (λ earlier. earlier.fork ≡ upto a.client a.t done.fork) }
+{}
+
+/// The names of a fork are those of the fork that the reply's version is of, then those of the tuples' operations and of
+/// the own one, numbered by counting on from the timestamps of that version.
+pub fn fork_counts_on_from_the_version()
+    ensures { (n : ℕ) (past : Past) (key : List ℕ) (me : ℕ) (own : Vector) (op : Operation) (reply : Reply) → IsGround n past →
+        IsAccepted n past key me own op reply → names (fork_after past.book me reply)
+        ≡ names_since reply.version.version (me ∷ clients_after [] reply.pending) ++ names (base_of past.book reply) }
 {}
 
 /// The version of a completion is at most that of another exactly where its fork is a front of the other's; the versions

@@ -7,9 +7,10 @@
 //
 // This crate has no code. Its definitions are what promises on views and cuts speak of: `specs/Books.antt` comes first,
 // with operations that began and that completed; `specs/Sources.antt` and `specs/Pairs.antt` say which bodies were
-// made and which tags a reply has to answer for, `specs/Forks.antt` has the fork of a completion and what is kept of
-// all of them, and `specs/Answers.antt` what reads answer. `laws` states what they keep, and `proofs/` has the lemmas
-// that crates above cite. Which clients there are, and in which order entries come, is not its business.
+// made and which tags a reply has to answer for; `specs/Pasts.antt` has the fork of a completion and what each entry
+// leaves behind it, `specs/Forks.antt` what is kept of all that, and `specs/Answers.antt` what reads answer. `laws`
+// states what holds, and `proofs/` has the lemmas that crates above cite. Which messages come to which client, and
+// whether a tag is forged, is not its business.
 #![tactic(auto)]
 
 pub mod laws;
