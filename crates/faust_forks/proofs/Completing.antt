@@ -21,82 +21,17 @@ use Rattle.faust_forks.specs.Books.{Done, Began, Completed, find}
 use Rattle.faust_forks.specs.Sources.{of_commit}
 use Rattle.faust_forks.specs.Pairs.{AreMade, known_pairs, read_pairs, tuple_pairs}
 use Rattle.faust_forks.specs.Pasts.{Past, base_of, done_at, fork_of}
-use Rattle.faust_forks.specs.Forks.{IsAccepted, IsAnchored, IsFork, IsGround, IsSound}
+use Rattle.faust_forks.specs.Forks.{IsAccepted, IsAnchored, IsFork, IsGround, IsHistoryOf, IsSound}
 use Rattle.faust_forks.proofs.Members.{has-left, has-right}
 use Rattle.faust_forks.proofs.Found.{done-named}
 use Rattle.faust_forks.proofs.Made.{AreMade-left, AreMade-right, known-made, made-commit}
-use Rattle.faust_forks.proofs.Later.{later-self}
+use Rattle.faust_forks.proofs.Booked.{known-history}
 use Rattle.faust_forks.proofs.Settled.{begun-cons, fork-later, fork-nil, settled-cons}
 use Rattle.faust_forks.proofs.Walked.{anchored-by, count-after, fork-along}
 
--- a version that a client made is initial or that of a completion of the client
-pub known-completed : (n : ℕ) (past : Past) (key : List ℕ) (k : ℕ) (known : Known) → IsGround n past → IsKnownBy n k known
-    → is_known_right key k known ≡ true → AreMade key past.made (known_pairs k known)
-    → (is_initial known.version ≡ true) ⊎ Completed past.book k (timestamp_at known.version k) (λ done. done.version ≡ known.version)
-known-completed n past key k known ground range right pairs = elim (cases_Bool (is_initial known.version)) [
-  | inl is ↦ inl is
-  | inr fresh ↦
-      let has : Has past.made (of_commit k known.version) = made-commit n past.made k known.version ground.sources range.version_in_range
-      (known-made key past.made k known pairs right fresh) in
-      inr (ground.explained (of_commit k known.version) has)
-]
-
--- The history that a reply's version is of.
-pub record IsBase (n : ℕ) (past : Past) (reply : Reply) (w : List ℕ) : Type 0 where
-  pub version : IsVersionOf n reply.version.version w
-  pub fork : IsFork n past past.entry w
-  pub whole : last_to reply.c w ≡ w
-
-base-initial : (n : ℕ) (past : Past) (reply : Reply)
-    → IsReplyFor n reply → is_initial reply.version.version ≡ true → IsBase n past reply []
-base-initial n past reply range is =
-    let v = reply.version.version in
-    let in_range = range.version_known.version_in_range in
-    let same : v ≡ initial n = (is_initial-means v in_range.kept).0 is ∙ ap initial in_range.count in
-    record {
-      version = subst (λ (z : Vector). IsVersionOf n z []) (sym same) (IsVersionOf-initial n);
-      fork = fork-nil n past past.entry;
-      whole = refl;
-    }
-
-base-completed : (n : ℕ) (past : Past) (reply : Reply) (t : ℕ) (done : Done) → IsGround n past → find past.book reply.c t ≡ Some done
-    → done.version ≡ reply.version.version → IsBase n past reply done.fork
-base-completed n past reply t done ground found same =
-    let sound = ground.sound reply.c t done found in
-    let named = done-named past.book reply.c t done found in
-    let ends : EndsWith reply.c done.fork = subst (λ (z : ℕ). EndsWith z done.fork) named.is_client sound.ends in
-    let older : done.entry < past.entry = ground.done_before reply.c t done found in
-    record {
-      version = subst (λ (z : Vector). IsVersionOf n z done.fork) same sound.version;
-      fork = fork-later n past past done.entry past.entry done.fork (later-self past) (omega (arith, older)) sound.fork;
-      whole = last_to-ended reply.c done.fork ends;
-    }
-
-pub base-stands : (n : ℕ) (past : Past) (key : List ℕ) (reply : Reply) → IsGround n past → IsReplyFor n reply
-    → is_known_right key reply.c reply.version ≡ true → AreMade key past.made (known_pairs reply.c reply.version)
-    → IsBase n past reply (base_of past.book reply)
-base-stands n past key reply ground range right pairs =
-    let v = reply.version.version in
-    let there = fork_of (find past.book reply.c (timestamp_at v reply.c)) in
-    elim (cases_Bool (is_initial v)) [
-      | inl is ↦
-          let nothing : base_of past.book reply ≡ [] = cond-true (is_initial v) [] there is in
-          subst (λ (z : List ℕ). IsBase n past reply z) (sym nothing)
-          (base-initial n past reply range is)
-      | inr fresh ↦
-          let has : Has past.made (of_commit reply.c v) =
-          made-commit n past.made reply.c v ground.sources range.version_known.version_in_range
-          (known-made key past.made reply.c reply.version pairs right fresh) in
-          let came : Completed past.book reply.c (timestamp_at v reply.c) (λ done. done.version ≡ v) =
-          ground.explained (of_commit reply.c v) has in
-          let is_fork : base_of past.book reply ≡ came.done.fork = cond-false (is_initial v) [] there fresh ∙ ap fork_of came.found in
-          subst (λ (z : List ℕ). IsBase n past reply z) (sym is_fork)
-          (base-completed n past reply (timestamp_at v reply.c) came.done ground came.found came.fits_it)
-    ]
-
 -- the own last operation is that of the reply's version
 own-anchored : (n : ℕ) (past : Past) (key : List ℕ) (me : ℕ) (own : Vector) (op : Operation) (reply : Reply) (w : List ℕ) → IsGround n past
-    → IsAccepted n past key me own op reply → IsBase n past reply w → IsAnchored past.book me w
+    → IsAccepted n past key me own op reply → IsHistoryOf n past past.entry reply.c reply.version.version w → IsAnchored past.book me w
 own-anchored n past key me own op reply w ground accepted base =
     let client = accepted.client_in_range in
     let v = reply.version.version in
@@ -123,7 +58,7 @@ anchored-same book k u w counts lasts (inr came) =
 
 -- The history before the own operation, and the walk that came there.
 pub record IsReached (n : ℕ) (past : Past) (me : ℕ) (own : Vector) (reply : Reply) (w : List ℕ) : Type 0 where
-  pub base : IsBase n past reply (base_of past.book reply)
+  pub base : IsHistoryOf n past past.entry reply.c reply.version.version (base_of past.book reply)
   pub start : IsWalkOf n (begun reply) (base_of past.book reply)
   pub walk : IsWalkOf n (followed (begun reply) reply.pending) w
   pub fork : IsFork n past past.entry w
@@ -142,7 +77,8 @@ reached n past key me own op reply ground accepted =
     let behind = read_pairs reply.read in
     let known = known_pairs reply.c reply.version in
     let tuples = tuple_pairs reply.proofs behind walk reply.pending in
-    let base = base-stands n past key reply ground range passed.known_right (AreMade-left key past.made known tuples accepted.unforged) in
+    let base = known-history n past key reply.c reply.version ground range.version_known passed.known_right
+    (AreMade-left key past.made known tuples accepted.unforged) in
     let start = IsWalkOf-begun n reply w base.version range.client_in_range base.whole in
     let own_inputs = chain_input (followed walk reply.pending).digest me ∷ read_inputs reply.read in
     let along = fork-along n past key me reply.proofs behind walk w reply.pending ground start base.fork passed.tuples_passed

@@ -8,6 +8,8 @@ pub mod Made
 pub mod Later
 -- histories whose operations began and completed
 pub mod Settled
+-- versions that clients made are of histories
+pub mod Booked
 -- along the tuples of a reply
 pub mod Walked
 -- the chain lemma at a reply

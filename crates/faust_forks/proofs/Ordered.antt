@@ -1,20 +1,22 @@
 -- Versions are ordered as their forks are by being fronts, and the forks of one client go up.
-use Rattle.std.proofs.Common.{◌≡◌, ◌↔◌, ℕ, ◌<◌, ◌≤◌, true, List, Some, sym, ap, ◌∙◌, subst, inl, inr, arith}
-use Rattle.std.proofs.lemmas.Bool.{cases_lt, or_cases}
+use Rattle.std.proofs.Common.{◌≡◌, ◌↔◌, ℕ, ◌<◌, ◌≤◌, true, List, [], Some, sym, ap, ◌∙◌, subst, inl, inr, arith}
+use Rattle.std.proofs.lemmas.Bool.{cases_lt, cond-true, cond-false, or_cases}
 use Rattle.faust_types.specs.Clients.{IsClient}
-use Rattle.faust_types.specs.Versions.{Vector, IsAtMost, clients_of, is_at_most, is_comparable}
+use Rattle.faust_types.specs.Ranges.{IsVersionFor}
+use Rattle.faust_types.specs.Versions.{is_initial, timestamp_at, Vector, IsAtMost, clients_of, is_at_most, is_comparable}
 use Rattle.faust_types.proofs.Order.{is_at_most-means}
 use Rattle.faust_hash.specs.Chain.{chain_of}
 use Rattle.faust_lists.specs.Lists.{count, upto, last_to, AreAlong, EndsWith, IsTail}
 use Rattle.faust_lists.specs.Walks.{IsFree, IsVersionOf}
-use Rattle.faust_lists.proofs.Tails.{tail-antisym, tail-refl}
+use Rattle.faust_lists.proofs.Tails.{tail-nil, tail-antisym, tail-refl}
 use Rattle.faust_lists.proofs.Fronts.{last_to-ended, last_to-tail, upto-ended, upto-tail}
 use Rattle.faust_lists.proofs.Chains.{AreHashed-tail, chain_of-same}
 use Rattle.faust_lists.proofs.Versions.{at_most-tail, comparable-along}
 use Rattle.faust_forks.specs.Books.{Done, Completed, find}
-use Rattle.faust_forks.specs.Pasts.{Past}
-use Rattle.faust_forks.specs.Forks.{IsBook, IsFork, IsSettled}
+use Rattle.faust_forks.specs.Pasts.{Past, fork_of, history_at}
+use Rattle.faust_forks.specs.Forks.{IsBooked, IsGround, IsBook, IsFork, IsSettled}
 use Rattle.faust_forks.proofs.Found.{done-named, found-once}
+use Rattle.faust_forks.proofs.Booked.{booked-history, completed-fresh}
 use Rattle.faust_forks.proofs.Settled.{ends-client, ends-counted}
 
 -- What the book knows of a completion of client k: its fork ends with k and counts as many of k as its number says.
@@ -136,3 +138,41 @@ pub own-grows : (n : ℕ) (past : Past) (k s t : ℕ) (x y : Done)
     → IsBook n past → find past.book k s ≡ Some x → find past.book k t ≡ Some y → s ≤ t → IsTail x.fork y.fork
 own-grows n past k s t x y book_sound in_x in_y le =
     subst (λ (z : List ℕ). IsTail z y.fork) (sym (own-front n past k s t x y book_sound in_x in_y le)) (upto-tail k s y.fork)
+
+-- of two versions that clients made: one is at most the other exactly where its history is a front of the other's
+pub history-below : (n : ℕ) (past : Past) (j : ℕ) (v x : Vector) (w : List ℕ) → IsGround n past → IsVersionFor n v → IsBooked past.book j v
+    → IsFork n past past.entry w → IsVersionOf n x w → IsAtMost v x → IsTail (history_at past.book j v) w
+history-below n past j v x w ground range (inl is) fork version below =
+    let nothing : history_at past.book j v ≡ [] = cond-true (is_initial v) [] (fork_of (find past.book j (timestamp_at v j))) is in
+    subst (λ (z : List ℕ). IsTail z w) (sym nothing) (tail-nil w)
+history-below n past j v x w ground range (inr came) fork version below =
+    let fresh = completed-fresh n past j (timestamp_at v j) v came.done ground came.found came.fits_it in
+    let is_fork : history_at past.book j v ≡ came.done.fork =
+    cond-false (is_initial v) [] (fork_of (find past.book j (timestamp_at v j))) fresh ∙ ap fork_of came.found in
+    let mine : IsAtMost came.done.version x = subst (λ (z : Vector). IsAtMost z x) (sym came.fits_it) below in
+    subst (λ (z : List ℕ). IsTail z w) (sym is_fork)
+    (tail-below n past j (timestamp_at v j) past.entry came.done x w ground.free ground.sound came.found fork version mine)
+
+pub booked-below : (n : ℕ) (past : Past) (j k : ℕ) (v x : Vector) → IsGround n past → IsVersionFor n v → IsVersionFor n x
+    → IsBooked past.book j v → IsBooked past.book k x → IsAtMost v x ↔ IsTail (history_at past.book j v) (history_at past.book k x)
+booked-below n past j k v x ground v_range x_range v_booked x_booked =
+    let a = booked-history n past j v ground v_range v_booked in
+    let b = booked-history n past k x ground x_range x_booked in (
+      λ below. history-below n past j v x (history_at past.book k x) ground v_range v_booked b.fork b.version below,
+      λ front. at_most-tail n v x (history_at past.book j v) (history_at past.book k x) a.version b.version front,
+    )
+
+pub booked-comparable : (n : ℕ) (past : Past) (j k : ℕ) (v x : Vector) → IsGround n past → IsVersionFor n v → IsVersionFor n x
+    → IsBooked past.book j v → IsBooked past.book k x
+    → (is_comparable v x ≡ true) ↔ AreAlong (history_at past.book j v) (history_at past.book k x)
+booked-comparable n past j k v x ground v_range x_range v_booked x_booked =
+    let a = booked-history n past j v ground v_range v_booked in
+    let b = booked-history n past k x ground x_range x_booked in
+    let up = booked-below n past j k v x ground v_range x_range v_booked x_booked in
+    let down = booked-below n past k j x v ground x_range v_range x_booked v_booked in (
+      λ holds. elim (or_cases (is_at_most v x) (is_at_most x v) holds) [
+        | inl le ↦ inl (up.0 ((is_at_most-means v x).0 le))
+        | inr ge ↦ inr (down.0 ((is_at_most-means x v).0 ge))
+      ],
+      λ along. comparable-along n v x (history_at past.book j v) (history_at past.book k x) a.version b.version along,
+    )

@@ -1,9 +1,9 @@
 -- The fork of a completion, and what is kept of all completions: the chain lemma is stated here. A promise on forks,
 -- views and cuts rests on this file.
-use Rattle.std.specs.Prelude.{◌≡◌, ℕ, ◌<◌, ◌≤◌, ◌⊎◌, suc, List, Option, None, Some, IfSome}
+use Rattle.std.specs.Prelude.{◌≡◌, ℕ, ◌<◌, ◌≤◌, ◌⊎◌, suc, true, List, Option, None, Some, IfSome}
 use Rattle.faust_types.specs.Clients.{IsClient}
 use Rattle.faust_types.specs.Ranges.{IsOperationNumber, IsReplyFor}
-use Rattle.faust_types.specs.Versions.{Vector, digest_at, initial, timestamp_at}
+use Rattle.faust_types.specs.Versions.{Vector, digest_at, initial, is_initial, timestamp_at}
 use Rattle.faust_types.specs.declared.operation.Operation.{Operation}
 use Rattle.faust_types.specs.declared.message.Reply.{Reply}
 use Rattle.faust_hash.specs.Chain.{value_input}
@@ -39,6 +39,16 @@ pub record IsFork (n : ℕ) (past : Past) (entry : ℕ) (w : List ℕ) : Type 0 
   pub settled : IsSettled n past.book w
   pub begun_before : AreBegun n past.started entry w
   pub chains : AreHashed past.hashed w
+
+-- The version of client k is that of a history which the entry may know, and which ends with k or is empty.
+pub record IsHistoryOf (n : ℕ) (past : Past) (entry k : ℕ) (v : Vector) (w : List ℕ) : Type 0 where
+  pub version : IsVersionOf n v w
+  pub fork : IsFork n past entry w
+  pub whole : last_to k w ≡ w
+
+-- A version of client k is initial, or that of a completion of the client.
+abbrev pub IsBooked : List Done → ℕ → Vector → Type 0
+IsBooked book k v = (is_initial v ≡ true) ⊎ Completed book k (timestamp_at v k) (λ done. done.version ≡ v)
 
 -- A completion is sound: its fork ends with it, its version is that of its fork, and its fork is a history that its
 -- entry may know.

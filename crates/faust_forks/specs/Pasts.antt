@@ -29,10 +29,14 @@ abbrev pub fork_of : Option Done → List ℕ
 fork_of None = []
 fork_of (Some done) = done.fork
 
--- The history that the version of a reply is of: nothing where it is initial, else the fork of its maker's operation.
+-- The history that a version of client k is of: nothing where it is initial, else the fork of the client's operation
+-- that it counts last.
+abbrev pub history_at : List Done → ℕ → Vector → List ℕ
+history_at book k v = cond (is_initial v) [] (fork_of (find book k (timestamp_at v k)))
+
+-- The history that the version of a reply is of.
 abbrev pub base_of : List Done → Reply → List ℕ
-base_of book reply = cond (is_initial reply.version.version) []
-    (fork_of (find book reply.c (timestamp_at reply.version.version reply.c)))
+base_of book reply = history_at book reply.c reply.version.version
 
 -- The fork of the operation that client me completes by a reply: that history, the clients of the tuples, and the own
 -- operation.

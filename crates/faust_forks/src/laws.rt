@@ -1,23 +1,27 @@
 //! What completions keep. Each function has an empty body, and its contract is the law.
 ghost use Rattle.std.specs.Prelude.{◌≡◌, ◌↔◌, ℕ, ◌<◌, ◌≤◌, true, List, [], ◌∷◌, ◌++◌, Option, Some};
-ghost use Rattle.faust_types.specs.Ranges.{IsOperationNumber, IsPeerMessageFor, IsVersionFor};
+ghost use Rattle.faust_types.specs.Clients.{IsClientCount};
+ghost use Rattle.faust_types.specs.Ranges.{IsKnownBy, IsOperationNumber, IsPeerMessageFor, IsVersionFor};
 ghost use Rattle.faust_types.specs.Versions.{Vector, IsAtMost, digest_at, is_comparable};
 ghost use Rattle.faust_types.specs.declared.operation.Kind.{Kind};
 ghost use Rattle.faust_types.specs.declared.operation.Kind.TheVariants.{Read};
 ghost use Rattle.faust_types.specs.declared.operation.Operation.{Operation};
 ghost use Rattle.faust_types.specs.declared.operation.OpName.{OpName};
+ghost use Rattle.faust_types.specs.declared.message.Known.{Known};
 ghost use Rattle.faust_types.specs.declared.message.PeerMessage.{PeerMessage};
 ghost use Rattle.faust_types.specs.declared.message.Reply.{Reply};
 ghost use Rattle.faust_tags.specs.Bodies.{commit_body, data_body, peer_body, proof_body, submit_body};
+ghost use Rattle.faust_ustor.specs.Checks.{is_known_right};
 ghost use Rattle.faust_ustor.specs.Passed.{clients_after, next_of};
 ghost use Rattle.faust_lists.specs.Lists.{count, upto, AreAlong, IsTail};
 ghost use Rattle.faust_lists.specs.Names.{AreDistinct, Has, names};
 ghost use Rattle.faust_lists.specs.Walks.{IsFree, IsVersionOf};
 ghost use Rattle.faust_forks.specs.Books.{Begun, Done, Began, Completed, find};
 ghost use Rattle.faust_forks.specs.Sources.{AreSources, IsMade, IsSent, Source, of_commit, of_data, of_proof, of_submit};
-ghost use Rattle.faust_forks.specs.Pasts.{IsLater, Past, base_of, begun_in, completed_in, done_at, first_past, fork_after, hashed_in, names_since, sent_in};
+ghost use Rattle.faust_forks.specs.Pairs.{AreMade, known_pairs};
+ghost use Rattle.faust_forks.specs.Pasts.{IsLater, Past, base_of, begun_in, completed_in, done_at, first_past, fork_after, hashed_in, history_at, names_since, sent_in};
 ghost use Rattle.faust_forks.specs.Answers.{AreAnswered, IsAnswered};
-ghost use Rattle.faust_forks.specs.Forks.{IsAccepted, IsBegin, IsBook, IsGround, IsOwn, IsSound};
+ghost use Rattle.faust_forks.specs.Forks.{IsAccepted, IsBegin, IsBook, IsBooked, IsGround, IsHistoryOf, IsOwn, IsSound};
 
 /// A body that was made tells what it was made of.
 pub fn made_bodies_tell_their_sources()
@@ -102,6 +106,22 @@ pub fn versions_are_ordered_as_forks()
         (is_comparable x.version y.version ≡ true) ↔ AreAlong x.fork y.fork }
     ensures same { (n : ℕ) (past : Past) (j s k t : ℕ) (x y : Done) → IsFree past.hashed → IsBook n past →
         find past.book j s ≡ Some x → find past.book k t ≡ Some y → x.version ≡ y.version → x.fork ≡ y.fork }
+{}
+
+/// Where no tag is forged, a version that comes with its client's tag is initial or that of a completion of the client;
+/// and so is the own one. Such versions, too, are ordered exactly as their histories are by being fronts.
+pub fn right_versions_are_booked()
+    ensures known { (n : ℕ) (past : Past) (key : List ℕ) (k : ℕ) (known : Known) → IsGround n past → IsKnownBy n k known →
+        is_known_right key k known ≡ true → AreMade key past.made (known_pairs k known) → IsBooked past.book k known.version }
+    ensures own { (n : ℕ) (book : List Done) (me : ℕ) (own : Vector) → IsClientCount n → IsOwn n book me own → IsBooked book me own }
+    ensures history { (n : ℕ) (past : Past) (k : ℕ) (v : Vector) → IsGround n past → IsVersionFor n v → IsBooked past.book k v →
+        IsHistoryOf n past past.entry k v (history_at past.book k v) }
+    ensures below { (n : ℕ) (past : Past) (j k : ℕ) (v x : Vector) → IsGround n past → IsVersionFor n v → IsVersionFor n x →
+        IsBooked past.book j v → IsBooked past.book k x →
+        IsAtMost v x ↔ IsTail (history_at past.book j v) (history_at past.book k x) }
+    ensures comparable { (n : ℕ) (past : Past) (j k : ℕ) (v x : Vector) → IsGround n past → IsVersionFor n v → IsVersionFor n x →
+        IsBooked past.book j v → IsBooked past.book k x →
+        (is_comparable v x ≡ true) ↔ AreAlong (history_at past.book j v) (history_at past.book k x) }
 {}
 
 /// The forks of one client go up: that of an earlier operation is the front of a later one's that ends with it.
