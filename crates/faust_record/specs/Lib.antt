@@ -1,0 +1,11 @@
+pub mod Entries
+pub mod Runs
+pub mod Operations
+pub mod Made
+pub mod Journals
+pub mod Refusals
+pub mod Acting
+pub mod Kept
+pub mod Merging
+pub mod Placing
+pub mod Laws
