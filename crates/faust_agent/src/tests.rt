@@ -1,54 +1,13 @@
 ghost use Rattle.faust_types.specs.Ranges.{IsWire};
 
 use crate::Agent;
-use faust_types::{Bytes, Config, MAX_VALUE_LEN, OutOfMemory, Outcome, Posts};
+use faust_hash::value_digest;
+use faust_types::{Bytes, Config, Cut, MAX_VALUE_LEN, OutOfMemory, Outcome};
 use std::alloc::Global;
 use std::test::Fail;
 
-// Python's `hmac` and `hashlib` gave these messages of client 1, from the layouts of bodies and messages.
-const SUBMIT_OF_A: &str =
-    "010101010000000000000001352fbaf1d0763b484ffdd243407dfffdeef23b8c194f9a8c2d0451d034a09d384abcef5c3ca28a617ba6b8ae0bb0b00914422da068d31e676b0e3b7edd24b06e000161";
-
-const COMMIT_OF_A: &str =
-    "0103000000000000000100000000000000000127c24fcb8474773e2af799d0848495ff053272d33c432dc26277993df45c92760043c41b60cb5026b5490bba16cd08bd5b433be5e73edeab89f9d7b6900faee56e506bb519525b4145c646b71434a2a9d5508befe5552c7aec37d0be6b7ff72e4c";
-
-const DUMMY_READ: &str =
-    "010102020000000000000002f6fe9da22f2f5be40c5d434d4836b1e08a45729e104bce79e36eee08b0eecdf67bd121489ef0c42b9d038b595d3267e1e45ff50cb0e96780e2801782def119f9";
-
-const PROBE: &str = "01040102e0728ed65e31a4de205fd45cb696fb658ab9b24e0ac2215a65c4744752bc12f3";
-
-const INITIAL_VERSION: &str =
-    "01050102007410fe51713bf48a9cf622a8133dc9e32d5c35f5dbdaab46fe302b5410829541";
-
-const OWN_VERSION: &str =
-    "0105010201000000000000000100000000000000000127c24fcb8474773e2af799d0848495ff053272d33c432dc26277993df45c92760043c41b60cb5026b5490bba16cd08bd5b433be5e73edeab89f9d7b6900faee56eb11047388f719e303413914861475c560172d5ca61c7231a7f0a78e5a975a88d";
-
-const BROKEN_1: &str = "01060102010bb591916bd534ae923114c56fa64c0e3248fc0749b1849897b8b49eebc58830";
-
-const BROKEN_2: &str = "010601020201786f5be1a7b7e2d29010895c68ae26ec4b8443d7a37e9b048dc35c22ad47d9";
-
-const BROKEN_13: &str =
-    "010601020d344381b27f674a7a25a6ab81eb418ee75f8e0ed00b5a72fb7173af55d96d38e0";
-
-const BROKEN_14: &str =
-    "010601020efdf88534e66642ab2021d76ea303561003288511bb4dd8c1fe9bce4803c7d133";
-
-const BROKEN_15: &str =
-    "010601020f3b7caddaacbcfe926e8c151b8208fddb93cc9961744827db6f8f445b689ad5a2";
-
-// The same under wire 2.
-const SUBMIT_OF_A_2: &str =
-    "020101010000000000000001352fbaf1d0763b484ffdd243407dfffdeef23b8c194f9a8c2d0451d034a09d384abcef5c3ca28a617ba6b8ae0bb0b00914422da068d31e676b0e3b7edd24b06e00016100";
-
-const COMMIT_OF_A_2: &str =
-    "0203000000000000000100000000000000000127c24fcb8474773e2af799d0848495ff053272d33c432dc26277993df45c92760043c41b60cb5026b5490bba16cd08bd5b433be5e73edeab89f9d7b6900faee56e506bb519525b4145c646b71434a2a9d5508befe5552c7aec37d0be6b7ff72e4c";
-
-const RIDDEN_2: &str =
-    "020102020000000000000002f6fe9da22f2f5be40c5d434d4836b1e08a45729e104bce79e36eee08b0eecdf67bd121489ef0c42b9d038b595d3267e1e45ff50cb0e96780e2801782def119f901000000000000000100000000000000000127c24fcb8474773e2af799d0848495ff053272d33c432dc26277993df45c92760043c41b60cb5026b5490bba16cd08bd5b433be5e73edeab89f9d7b6900faee56e506bb519525b4145c646b71434a2a9d5508befe5552c7aec37d0be6b7ff72e4c";
-
-const PROBE_2: &str = "02040102e0728ed65e31a4de205fd45cb696fb658ab9b24e0ac2215a65c4744752bc12f3";
-
-// Messages to client 1: the reply of a server that no other message reached, and what client 2 says.
+// Messages to client 1 of two: the first reply of a server under either wire, and what client 2 says. Python's
+// `hmac` and `hashlib` gave the tags and digests here and below, from the layouts of bodies and messages.
 const REPLY: &str = "0102010000000000";
 
 const REPLY_2: &str = "0202010000000000";
@@ -69,7 +28,7 @@ const VERSION_OF_BOTH: &str =
 const FAILURE_OF_2: &str =
     "01060201070c09958af4510d02031657621691c65de5b53fcfd463ff88a317f93a05814842";
 
-/// What comes to client 1 of two.
+/// What comes to client 1.
 #[derive(Clone, Copy)]
 enum Event {
     Write(&'static [u8]),
@@ -78,28 +37,6 @@ enum Event {
     Peer(&'static str),
     Tick(u64),
 }
-
-/// An outcome: messages as hexadecimal text, those to clients all to client 2; and of operations the number.
-#[derive(Clone, Copy)]
-struct Shown {
-    to_server: &'static str,
-    to_peers: &'static [&'static str],
-    answered: u64,
-    cut: &'static [u64],
-    probed: &'static [u8],
-    began: u64,
-    notice: (u8, u32),
-}
-
-const NOTHING: Shown = Shown {
-    to_server: "",
-    to_peers: &[],
-    answered: 0,
-    cut: &[],
-    probed: &[],
-    began: 0,
-    notice: (0, 0),
-};
 
 fn digit(c: u8) -> u8 {
     match c {
@@ -123,53 +60,6 @@ fn bytes_of(alloc: Global, text: &str) -> Result<Bytes, OutOfMemory> {
         }
     }
     Ok(bytes)
-}
-
-fn is_spelled(alloc: Global, bytes: &Option<Bytes>, text: &str) -> Result<bool, OutOfMemory> {
-    match bytes {
-        None => Ok(text.is_empty()),
-        Some(bytes) => Ok(bytes.as_slice() == bytes_of(alloc, text)?.as_slice()),
-    }
-}
-
-fn are_spelled(alloc: Global, posts: &Posts, texts: &[&str]) -> Result<bool, OutOfMemory> {
-    if posts.len() != texts.len() {
-        return Ok(false);
-    }
-    for (post, text) in posts.as_slice().iter().zip(texts) {
-        if post.to != 2 || post.bytes.as_slice() != bytes_of(alloc, text)?.as_slice() {
-            return Ok(false);
-        }
-    }
-    Ok(true)
-}
-
-fn is_shown(alloc: Global, outcome: &Outcome, shown: &Shown) -> Result<bool, OutOfMemory> {
-    let answered = match &outcome.answer {
-        None => 0,
-        Some(answer) => answer.op.name.t,
-    };
-    let began = match &outcome.began {
-        None => 0,
-        Some(op) => op.name.t,
-    };
-    let notice = match &outcome.notice {
-        None => (0, 0),
-        Some(notice) => (notice.check, notice.place),
-    };
-    let cut = match &outcome.cut {
-        None => &[],
-        Some(cut) => cut.as_slice(),
-    };
-    Ok(
-        is_spelled(alloc, &outcome.to_server, shown.to_server)?
-            && are_spelled(alloc, &outcome.to_peers, shown.to_peers)?
-            && answered == shown.answered
-            && cut == shown.cut
-            && outcome.probed.as_slice() == shown.probed
-            && began == shown.began
-            && notice == shown.notice,
-    )
 }
 
 fn first_agent(alloc: Global, wire: u8) -> Result<Agent, OutOfMemory>
@@ -208,228 +98,191 @@ fn outcome(alloc: Global, agent: &mut Agent, event: Event) -> Result<Option<Outc
     Ok(Some(outcome))
 }
 
-/// Whether each of the events in turn gives what is shown beside it.
-fn are_shown(
-    alloc: Global,
-    agent: &mut Agent,
-    steps: &[(Event, Shown)],
-) -> Result<bool, OutOfMemory> {
-    for (event, shown) in steps {
-        let shown = match outcome(alloc, agent, *event)? {
-            None => false,
-            Some(outcome) => is_shown(alloc, &outcome, shown)?,
-        };
-        if !shown {
-            return Ok(false);
-        }
-    }
-    Ok(true)
+/// A message by its length and the first bytes of its digest.
+fn message(alloc: Global, word: &str, bytes: &Bytes) -> Result<String, OutOfMemory> {
+    let digest = value_digest(bytes.as_slice());
+    let (a, b, c, d) = (digest[0], digest[1], digest[2], digest[3]);
+    let text = format!(in alloc; "{word} {} {a:02x}{b:02x}{c:02x}{d:02x}; ", bytes.len())?;
+    Ok(text)
 }
 
-const BEGUN: (Event, Shown) = (
-    Event::Write(b"a"),
-    Shown {
-        to_server: SUBMIT_OF_A,
-        ..NOTHING
-    },
-);
+fn put_messages(alloc: Global, outcome: &Outcome, text: &mut String) -> Result<(), OutOfMemory> {
+    if let Some(bytes) = &outcome.to_server {
+        text.push_str(message(alloc, "server", bytes)?.as_str())?;
+    }
+    for post in outcome.to_peers.as_slice() {
+        text.push_str(message(alloc, "post", &post.bytes)?.as_str())?;
+    }
+    Ok(())
+}
 
-const COMPLETED: (Event, Shown) = (
-    Event::Reply(REPLY),
-    Shown {
-        to_server: COMMIT_OF_A,
-        answered: 1,
-        cut: &[1, 0],
-        ..NOTHING
-    },
-);
+fn put_cut(alloc: Global, cut: &Cut, text: &mut String) -> Result<(), OutOfMemory> {
+    text.push_str("cut ")?;
+    for entry in cut.as_slice() {
+        text.push_str(format!(in alloc; "{entry} ")?.as_str())?;
+    }
+    Ok(())
+}
 
-const BEGUN_2: (Event, Shown) = (
-    Event::Write(b"a"),
-    Shown {
-        to_server: SUBMIT_OF_A_2,
-        ..NOTHING
-    },
-);
+fn put_rest(alloc: Global, outcome: &Outcome, text: &mut String) -> Result<(), OutOfMemory> {
+    if let Some(answer) = &outcome.answer {
+        text.push_str(format!(in alloc; "done {}; ", answer.op.name.t)?.as_str())?;
+    }
+    if let Some(cut) = &outcome.cut {
+        put_cut(alloc, cut, text)?;
+    }
+    for client in outcome.probed.as_slice() {
+        text.push_str(format!(in alloc; "probe {client}; ")?.as_str())?;
+    }
+    if let Some(op) = &outcome.began {
+        text.push_str(format!(in alloc; "begin {}; ", op.name.t)?.as_str())?;
+    }
+    if let Some(notice) = &outcome.notice {
+        text.push_str(format!(in alloc; "check {} at {}; ", notice.check, notice.place)?.as_str())?;
+    }
+    Ok(())
+}
 
-const COMPLETED_2: (Event, Shown) = (
-    Event::Reply(REPLY_2),
-    Shown {
-        answered: 1,
-        cut: &[1, 0],
-        ..NOTHING
-    },
-);
+/// What an event gives, as a text.
+fn told(alloc: Global, agent: &mut Agent, event: Event) -> Result<String, OutOfMemory> {
+    let mut text = String::new(alloc);
+    match outcome(alloc, agent, event)? {
+        None => text.push_str("can't come")?,
+        Some(outcome) => {
+            put_messages(alloc, &outcome, &mut text)?;
+            put_rest(alloc, &outcome, &mut text)?;
+        }
+    }
+    Ok(text)
+}
 
 #[test]
 fn operations_probes_and_a_failure(rt: HostRuntime) -> Result<(), Fail> {
-    let mut agent = first_agent(rt.alloc(), 1)?;
-    let steps = [
-        BEGUN,
-        COMPLETED,
-        (
-            Event::Peer(PROBE_OF_2),
-            Shown {
-                to_peers: &[OWN_VERSION],
-                ..NOTHING
-            },
-        ),
-        (Event::Peer(PROBE_WRONGLY_TAGGED), NOTHING),
-        (Event::Peer(PROBE_TO_2), NOTHING),
-        (
-            Event::Peer(VERSION_OF_BOTH),
-            Shown {
-                cut: &[1, 1],
-                ..NOTHING
-            },
-        ),
-        (
-            Event::Tick(1000),
-            Shown {
-                to_peers: &[PROBE],
-                probed: &[2],
-                ..NOTHING
-            },
-        ),
-        (Event::Tick(999), NOTHING),
-        (Event::Tick(1999), NOTHING),
+    let cases = [
+        (Event::Write(b"a"), "server 79 40bf8b77; "),
+        (Event::Reply(REPLY), "server 116 0156882d; done 1; cut 1 0 "),
+        (Event::Peer(PROBE_OF_2), "post 119 a7bf6389; "),
+        (Event::Peer(PROBE_WRONGLY_TAGGED), ""),
+        (Event::Peer(PROBE_TO_2), ""),
+        (Event::Peer(VERSION_OF_BOTH), "cut 1 1 "),
+        (Event::Tick(1000), "post 36 a553f3ed; probe 2; "),
+        (Event::Tick(999), ""),
+        (Event::Tick(1999), ""),
         (
             Event::Tick(1_000_000),
-            Shown {
-                to_server: DUMMY_READ,
-                to_peers: &[PROBE],
-                probed: &[2],
-                began: 2,
-                ..NOTHING
-            },
+            "server 76 c6633bb5; post 36 a553f3ed; probe 2; begin 2; ",
         ),
         (
             Event::Peer(FAILURE_OF_2),
-            Shown {
-                to_peers: &[BROKEN_15],
-                notice: (15, 2),
-                ..NOTHING
-            },
+            "post 37 be0c798e; check 15 at 2; ",
         ),
-        (
-            Event::Peer(PROBE_OF_2),
-            Shown {
-                to_peers: &[BROKEN_15],
-                ..NOTHING
-            },
-        ),
-        (Event::Peer(VERSION_OF_BOTH), NOTHING),
-        (Event::Reply(REPLY), NOTHING),
-        (Event::Tick(9_000_000), NOTHING),
+        (Event::Peer(PROBE_OF_2), "post 37 be0c798e; "),
+        (Event::Peer(VERSION_OF_BOTH), ""),
+        (Event::Reply(REPLY), ""),
+        (Event::Tick(9_000_000), ""),
     ];
-    assert!(rt; are_shown(rt.alloc(), &mut agent, &steps)?);
+    let mut agent = first_agent(rt.alloc(), 1)?;
+    for (event, expected) in cases {
+        let text = told(rt.alloc(), &mut agent, event)?;
+        assert_eq!(rt; text.as_str(), expected);
+    }
     assert!(rt; !agent.is_idle());
-    assert_eq!(rt; agent.cut(1), 1);
-    assert_eq!(rt; agent.cut(2), 1);
+    assert_eq!(rt; agent.cut(agent.clients()), 1);
     assert_eq!(rt; agent.greatest().maker, 2);
     assert!(rt; agent.notice().is_some());
     Ok(())
 }
 
 #[test]
-fn versions_that_no_single_history_has(rt: HostRuntime) -> Result<(), Fail> {
-    let mut agent = first_agent(rt.alloc(), 1)?;
-    let steps = [
-        (
-            Event::Peer(PROBE_OF_2),
-            Shown {
-                to_peers: &[INITIAL_VERSION],
-                ..NOTHING
-            },
-        ),
-        (Event::Peer(VERSION_OF_2_ALONE), NOTHING),
-        BEGUN,
-        (
-            Event::Reply(REPLY),
-            Shown {
-                to_peers: &[BROKEN_13],
-                notice: (13, 2),
-                ..NOTHING
-            },
-        ),
+fn a_next_version_that_is_apart(rt: HostRuntime) -> Result<(), Fail> {
+    let cases = [
+        (Event::Peer(PROBE_OF_2), "post 37 d51af699; "),
+        (Event::Peer(VERSION_OF_2_ALONE), ""),
+        (Event::Write(b"a"), "server 79 40bf8b77; "),
+        (Event::Reply(REPLY), "post 37 c085b00c; check 13 at 2; "),
     ];
-    assert!(rt; are_shown(rt.alloc(), &mut agent, &steps)?);
     let mut agent = first_agent(rt.alloc(), 1)?;
-    let steps = [
-        BEGUN,
-        COMPLETED,
+    for (event, expected) in cases {
+        let text = told(rt.alloc(), &mut agent, event)?;
+        assert_eq!(rt; text.as_str(), expected);
+    }
+    Ok(())
+}
+
+#[test]
+fn a_version_of_another_that_is_apart(rt: HostRuntime) -> Result<(), Fail> {
+    let cases = [
+        (Event::Write(b"a"), "server 79 40bf8b77; "),
+        (Event::Reply(REPLY), "server 116 0156882d; done 1; cut 1 0 "),
         (
             Event::Peer(VERSION_OF_2_ALONE),
-            Shown {
-                to_peers: &[BROKEN_14],
-                notice: (14, 2),
-                ..NOTHING
-            },
+            "post 37 83ca00e2; check 14 at 2; ",
         ),
     ];
-    assert!(rt; are_shown(rt.alloc(), &mut agent, &steps)?);
+    let mut agent = first_agent(rt.alloc(), 1)?;
+    for (event, expected) in cases {
+        let text = told(rt.alloc(), &mut agent, event)?;
+        assert_eq!(rt; text.as_str(), expected);
+    }
     Ok(())
 }
 
 #[test]
-fn replies_that_are_none_or_come_unasked(rt: HostRuntime) -> Result<(), Fail> {
-    let mut agent = first_agent(rt.alloc(), 1)?;
-    let steps = [
-        BEGUN,
-        (
-            Event::Reply(REPLY_2),
-            Shown {
-                to_peers: &[BROKEN_1],
-                notice: (1, 0),
-                ..NOTHING
-            },
-        ),
+fn a_reply_of_another_wire(rt: HostRuntime) -> Result<(), Fail> {
+    let cases = [
+        (Event::Write(b"a"), "server 79 40bf8b77; "),
+        (Event::Reply(REPLY_2), "post 37 4d8ca170; check 1 at 0; "),
     ];
-    assert!(rt; are_shown(rt.alloc(), &mut agent, &steps)?);
     let mut agent = first_agent(rt.alloc(), 1)?;
-    let steps = [(
-        Event::Reply(REPLY),
-        Shown {
-            to_peers: &[BROKEN_2],
-            notice: (2, 0),
-            ..NOTHING
-        },
-    )];
-    assert!(rt; are_shown(rt.alloc(), &mut agent, &steps)?);
+    for (event, expected) in cases {
+        let text = told(rt.alloc(), &mut agent, event)?;
+        assert_eq!(rt; text.as_str(), expected);
+    }
     Ok(())
 }
 
 #[test]
-fn a_held_commit_rides_or_goes_alone(rt: HostRuntime) -> Result<(), Fail> {
-    let mut agent = first_agent(rt.alloc(), 2)?;
-    let steps = [
-        BEGUN_2,
-        COMPLETED_2,
+fn a_reply_that_comes_unasked(rt: HostRuntime) -> Result<(), Fail> {
+    let cases = [(Event::Reply(REPLY), "post 37 97de29a0; check 2 at 0; ")];
+    let mut agent = first_agent(rt.alloc(), 1)?;
+    for (event, expected) in cases {
+        let text = told(rt.alloc(), &mut agent, event)?;
+        assert_eq!(rt; text.as_str(), expected);
+    }
+    Ok(())
+}
+
+#[test]
+fn a_held_commit_goes_alone(rt: HostRuntime) -> Result<(), Fail> {
+    let cases = [
+        (Event::Write(b"a"), "server 80 16cacc3e; "),
+        (Event::Reply(REPLY_2), "done 1; cut 1 0 "),
         (
             Event::Tick(1000),
-            Shown {
-                to_server: COMMIT_OF_A_2,
-                to_peers: &[PROBE_2],
-                probed: &[2],
-                ..NOTHING
-            },
+            "server 116 d2d08b90; post 36 83e14bda; probe 2; ",
         ),
-        (Event::Tick(1001), NOTHING),
+        (Event::Tick(1001), ""),
     ];
-    assert!(rt; are_shown(rt.alloc(), &mut agent, &steps)?);
     let mut agent = first_agent(rt.alloc(), 2)?;
-    let steps = [
-        BEGUN_2,
-        COMPLETED_2,
-        (
-            Event::Read(2),
-            Shown {
-                to_server: RIDDEN_2,
-                ..NOTHING
-            },
-        ),
-        (Event::Tick(999), NOTHING),
+    for (event, expected) in cases {
+        let text = told(rt.alloc(), &mut agent, event)?;
+        assert_eq!(rt; text.as_str(), expected);
+    }
+    Ok(())
+}
+
+#[test]
+fn a_held_commit_rides(rt: HostRuntime) -> Result<(), Fail> {
+    let cases = [
+        (Event::Write(b"a"), "server 80 16cacc3e; "),
+        (Event::Reply(REPLY_2), "done 1; cut 1 0 "),
+        (Event::Read(2), "server 191 3eeeacc9; "),
+        (Event::Tick(999), ""),
     ];
-    assert!(rt; are_shown(rt.alloc(), &mut agent, &steps)?);
+    let mut agent = first_agent(rt.alloc(), 2)?;
+    for (event, expected) in cases {
+        let text = told(rt.alloc(), &mut agent, event)?;
+        assert_eq!(rt; text.as_str(), expected);
+    }
     Ok(())
 }
