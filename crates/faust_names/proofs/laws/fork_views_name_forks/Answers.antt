@@ -1,0 +1,8 @@
+use Rattle.faust_names.proofs.ForkNames.{fork_view-front, fork_view-names}
+use Rattle.faust_names.proofs.laws.fork_views_name_forks.Goals as goal
+
+pub returns-clause-members : goal.returns-clause-members
+returns-clause-members c = fork_view-names
+
+pub returns-clause-front : goal.returns-clause-front
+returns-clause-front c = fork_view-front
