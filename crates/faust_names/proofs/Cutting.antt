@@ -5,7 +5,7 @@ use Rattle.faust_lists.specs.Lists.{AreAlong, IsTail}
 use Rattle.faust_lists.specs.Names.{name_of, Has}
 use Rattle.faust_lists.proofs.Tails.{tail-trans}
 use Rattle.faust_forks.specs.Books.{Begun, Done, find}
-use Rattle.faust_forks.specs.Forks.{fork_of}
+use Rattle.faust_forks.specs.Pasts.{fork_of}
 use Rattle.faust_names.specs.Histories.{Precedes}
 use Rattle.faust_names.specs.Views.{IsBefore}
 use Rattle.faust_names.specs.Cuts.{named, IsCovered, IsRightCut, IsRightUpTo, StandInLine}

@@ -6,7 +6,7 @@ use Rattle.faust_lists.specs.Names.{name_of, names, sift, Has}
 use Rattle.faust_lists.proofs.Tails.{tail-refl}
 use Rattle.faust_lists.proofs.Sifted.{names-same}
 use Rattle.faust_forks.specs.Books.{Done, find}
-use Rattle.faust_forks.specs.Forks.{fork_of}
+use Rattle.faust_forks.specs.Pasts.{fork_of}
 use Rattle.faust_names.specs.Views.{IsPrefix}
 use Rattle.faust_names.specs.ForkViews.{fork_view, listed}
 use Rattle.faust_names.proofs.Snocs.{nil-snoc, prefix-nil, prefix-snoc, snoc-same}

@@ -4,6 +4,7 @@ use Rattle.faust_types.specs.declared.operation.Kind.TheVariants.{Write}
 use Rattle.faust_forks.specs.Books.{Begun, Done, find, find_begun}
 use Rattle.faust_forks.specs.Answers.{AreAnswered}
 use Rattle.faust_forks.specs.Forks.{IsBook}
+use Rattle.faust_forks.specs.Pasts.{Past}
 use Rattle.faust_forks.proofs.Ordered.{found-of}
 use Rattle.faust_names.specs.Views.{IsCausal, IsViewOf, IsWeakForkLinearizable, JoinAtMostOnce, KeepsWeakRealTime}
 use Rattle.faust_names.specs.ForkViews.{history_of, is_kept, last_fork, view_of}
@@ -57,13 +58,13 @@ views-hold n started book chronicle = record {
 }
 
 -- what a sound book keeps of a completion, without its version
-pub chronicle-from : (n : ℕ) (started : List Begun) (book : List Done) (hashed : List (List ℕ)) → IsBook n started book hashed
-    → AreAnswered started book → ((k t : ℕ) (begun : Begun) → find_begun started k t ≡ Some begun → 1 ≤ t)
-    → ((k t : ℕ) (begun : Begun) → find_begun started k t ≡ Some begun → begun.kind ≡ Write → begun.register ≡ k)
-    → IsChronicle n started book
-chronicle-from n started book hashed sound answered numbered own_register = record {
+pub chronicle-from : (n : ℕ) (past : Past) → IsBook n past → AreAnswered past.started past.book
+    → ((k t : ℕ) (begun : Begun) → find_begun past.started k t ≡ Some begun → 1 ≤ t)
+    → ((k t : ℕ) (begun : Begun) → find_begun past.started k t ≡ Some begun → begun.kind ≡ Write → begun.register ≡ k)
+    → IsChronicle n past.started past.book
+chronicle-from n past sound answered numbered own_register = record {
   forks = λ k t done found.
-      let of_k = found-of n started book hashed k t done sound found in
+      let of_k = found-of n past k t done sound found in
       let fork = (sound k t done found).fork in
       record {
         ends = of_k.ends;

@@ -8,7 +8,7 @@ use Rattle.faust_lists.proofs.Counts.{count-own}
 use Rattle.faust_lists.proofs.Tails.{count-tail, tail-linear, tail-refl, tail-trans}
 use Rattle.faust_lists.proofs.Fronts.{upto-ended, upto-own, upto-tail}
 use Rattle.faust_forks.specs.Books.{Begun, Done, Began, Completed, find, find_begun}
-use Rattle.faust_forks.specs.Forks.{fork_of}
+use Rattle.faust_forks.specs.Pasts.{fork_of}
 use Rattle.faust_forks.proofs.Found.{found-once, some-same}
 use Rattle.faust_forks.proofs.Settled.{ends-counted}
 use Rattle.faust_forks.proofs.Answering.{counted-client}

@@ -4,7 +4,7 @@ use Rattle.std.proofs.lemmas.Bool.{cases_eq, cases_lt, cond-true, cond-false, eq
 use Rattle.faust_lists.specs.Lists.{IsTail}
 use Rattle.faust_lists.proofs.Fronts.{upto-tail}
 use Rattle.faust_forks.specs.Books.{Begun, Done, Completed, find}
-use Rattle.faust_forks.specs.Forks.{fork_of}
+use Rattle.faust_forks.specs.Pasts.{fork_of}
 use Rattle.faust_forks.proofs.Found.{Completed-more, done-cases, done-first, done-more, done-named, found-none}
 use Rattle.faust_forks.proofs.Settled.{ends-counted}
 use Rattle.faust_names.specs.ForkViews.{last_fork, last_number}

@@ -9,7 +9,7 @@ use Rattle.faust_lists.proofs.Tails.{AreClients-tail, tail-cons}
 use Rattle.faust_lists.proofs.Orders.{before-has}
 use Rattle.faust_forks.specs.Books.{Begun, Done, Completed, find, find_begun}
 use Rattle.faust_forks.specs.Answers.{IsAnswered, written}
-use Rattle.faust_forks.specs.Forks.{fork_of}
+use Rattle.faust_forks.specs.Pasts.{fork_of}
 use Rattle.faust_forks.proofs.Settled.{begun-tail}
 use Rattle.faust_names.specs.Histories.{IsCompleted, IsOperation}
 use Rattle.faust_names.specs.Views.{last_written, IsBefore, IsLegal}

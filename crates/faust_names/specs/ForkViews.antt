@@ -8,7 +8,7 @@ use Rattle.faust_types.specs.declared.operation.OpName.{OpName}
 use Rattle.faust_lists.specs.Lists.{count}
 use Rattle.faust_lists.specs.Names.{name_of}
 use Rattle.faust_forks.specs.Books.{Begun, Done, find, find_begun}
-use Rattle.faust_forks.specs.Forks.{fork_of}
+use Rattle.faust_forks.specs.Pasts.{fork_of}
 use Rattle.faust_names.specs.Histories.{Finished, History}
 
 -- What is seen of a completion: neither its version nor its fork.

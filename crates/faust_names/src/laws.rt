@@ -7,6 +7,7 @@ ghost use Rattle.faust_lists.specs.Names.{Has, names};
 ghost use Rattle.faust_forks.specs.Books.{Begun, Done, find, find_begun};
 ghost use Rattle.faust_forks.specs.Answers.{AreAnswered};
 ghost use Rattle.faust_forks.specs.Forks.{IsBook};
+ghost use Rattle.faust_forks.specs.Pasts.{Past};
 ghost use Rattle.faust_names.specs.Views.{IsCausal, IsPrefix, IsViewOf, IsWeakForkLinearizable, JoinAtMostOnce, KeepsWeakRealTime};
 ghost use Rattle.faust_names.specs.Cuts.{IsCovered, IsRightCut, IsRightUpTo};
 ghost use Rattle.faust_names.specs.ForkViews.{fork_view, history_of, view_of};
@@ -15,10 +16,10 @@ ghost use Rattle.faust_names.specs.Chronicles.{IsBacked, IsChronicle};
 /// Sound completions whose reads answer what was written are a chronicle, where operations have numbers from 1 and
 /// clients write their own registers.
 pub fn sound_completions_are_a_chronicle()
-    ensures { (n : ℕ) (started : List Begun) (book : List Done) (hashed : List (List ℕ)) → IsBook n started book hashed →
-        AreAnswered started book → ((k t : ℕ) (begun : Begun) → find_begun started k t ≡ Some begun → 1 ≤ t) →
-        ((k t : ℕ) (begun : Begun) → find_begun started k t ≡ Some begun → begun.kind ≡ Write → begun.register ≡ k) →
-        IsChronicle n started book }
+    ensures { (n : ℕ) (past : Past) → IsBook n past → AreAnswered past.started past.book →
+        ((k t : ℕ) (begun : Begun) → find_begun past.started k t ≡ Some begun → 1 ≤ t) →
+        ((k t : ℕ) (begun : Begun) → find_begun past.started k t ≡ Some begun → begun.kind ≡ Write → begun.register ≡ k) →
+        IsChronicle n past.started past.book }
 {}
 
 /// The view of a client is a view of it: it names operations, none twice, each client's numbers rise, the client's own
