@@ -24,3 +24,5 @@ pub mod Tables
 pub mod Fed
 -- journals and arrivals merged
 pub mod Merged
+-- runs are made by pushes
+pub mod Again

@@ -1,10 +1,10 @@
 //! What runs keep, on the definitions. Each function has an empty body, and its contract is the law.
-ghost use Rattle.std.specs.Prelude.{◌≡◌, ◌++◌, ℕ, List, length, Ok};
+ghost use Rattle.std.specs.Prelude.{◌≡◌, [], ◌∷◌, ◌++◌, ℕ, List, length, Ok};
 ghost use Rattle.faust_types.specs.declared.config.Config.{Config};
 ghost use Rattle.faust_record.specs.Runs.{IsRun, Run, arrived_in, entries_of, sent_in};
 ghost use Rattle.faust_record.specs.Journals.{Log};
 ghost use Rattle.faust_record.specs.Refusals.{push_of, step_of};
-ghost use Rattle.faust_record.specs.Laws.{Appends, IsPrefix};
+ghost use Rattle.faust_record.specs.Laws.{Appends, IsPrefix, pushed_as};
 ghost use Rattle.faust_record.specs.declared.entry.Input.{Input};
 ghost use Rattle.faust_record.specs.declared.run_record.PushInput.{PushInput};
 ghost use Rattle.faust_record.specs.declared.entry.Entry.{Entry};
@@ -37,4 +37,12 @@ pub fn a_push_appends_one_entry()
     ensures entry { (run new : Run) (i : ℕ) (input : PushInput) → push_of run i input ≡ Ok new →
         Appends run.entries new.entries i (length run.entries) }
     ensures kept { (run new : Run) (i : ℕ) (input : PushInput) → push_of run i input ≡ Ok new → new.config ≡ run.config }
+{}
+
+/// Each entry of a run is the one that its push gives, so every run is made by pushes.
+#[tactic(auto, using(crate::proofs::Again::entries_are_pushed))]
+pub fn every_run_is_pushed()
+    ensures { (config : Config) (front rest : List Entry) (entry : Entry) → IsRun config (front ++ entry ∷ rest) →
+        push_of (record { config = config; entries = front }) entry.client (pushed_as entry.input)
+        ≡ Ok (record { config = config; entries = front ++ entry ∷ [] }) }
 {}

@@ -46,9 +46,10 @@ impl Outbox {
         let before = self.sent.len();
         self.sent.push(place)?;
         match act(entries, agent, place as u64, input) {
-            Ok(true) => Ok(()),
-            Ok(false) => {
-                self.sent.truncate(before);
+            Ok(sends) => {
+                if !sends {
+                    self.sent.truncate(before);
+                }
                 Ok(())
             }
             Err(refusal) => {
