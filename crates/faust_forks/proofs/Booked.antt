@@ -1,5 +1,5 @@
 -- A version that its client made is initial or that of a completion, and so that of a history.
-use Rattle.std.proofs.Common.{◌≡◌, ℕ, ◌<◌, ◌⊎◌, true, false, List, [], ◌∷◌, Option, Some, refl, sym, ap, ◌∙◌, subst, inl, inr, arith}
+use Rattle.std.proofs.Common.{◌≡◌, ℕ, ◌<◌, true, false, List, [], ◌∷◌, Some, refl, sym, ap, ◌∙◌, subst, inl, inr, arith}
 use Rattle.std.proofs.lemmas.Bool.{cases_Bool, cond-true, cond-false}
 use Rattle.faust_types.specs.Clients.{IsClientCount}
 use Rattle.faust_types.specs.Ranges.{IsKnownBy, IsVersionFor}
@@ -13,8 +13,8 @@ use Rattle.faust_lists.specs.Names.{Has}
 use Rattle.faust_lists.specs.Walks.{IsVersionOf}
 use Rattle.faust_lists.proofs.Fronts.{last_to-ended}
 use Rattle.faust_lists.proofs.Versions.{IsVersionOf-initial, is_initial-cons}
-use Rattle.faust_forks.specs.Books.{Done, Completed, AreDoneIn, find}
-use Rattle.faust_forks.specs.Sources.{Source, of_commit}
+use Rattle.faust_forks.specs.Books.{Done, AreDoneIn, find}
+use Rattle.faust_forks.specs.Sources.{of_commit}
 use Rattle.faust_forks.specs.Pairs.{AreMade, known_pairs}
 use Rattle.faust_forks.specs.Pasts.{Past, fork_of, history_at}
 use Rattle.faust_forks.specs.Forks.{IsBooked, IsGround, IsHistoryOf, IsOwn}

@@ -1,32 +1,27 @@
 -- The chain lemma at a reply: a completion is sound.
-use Rattle.std.proofs.Common.{◌≡◌, ℕ, ◌<◌, ◌⊎◌, suc, true, List, [], ◌∷◌, Option, Some, refl, sym, ap, ◌∙◌, subst, inl, inr, arith}
-use Rattle.std.proofs.lemmas.Bool.{cases_Bool, cond-true, cond-false}
-use Rattle.faust_types.specs.Ranges.{IsKnownBy, IsReplyFor}
-use Rattle.faust_types.specs.Versions.{Vector, digest_at, initial, is_initial, timestamp_at}
-use Rattle.faust_types.specs.declared.message.Known.{Known}
+use Rattle.std.proofs.Common.{◌≡◌, ℕ, ◌<◌, suc, List, ◌∷◌, Option, refl, sym, ap, ◌∙◌, subst, inl, inr, arith}
+use Rattle.faust_types.specs.Versions.{Vector, digest_at, timestamp_at}
 use Rattle.faust_types.specs.declared.message.Reply.{Reply}
 use Rattle.faust_types.specs.declared.operation.Operation.{Operation}
-use Rattle.faust_types.proofs.Order.{is_initial-means, zero-at-initial}
+use Rattle.faust_types.proofs.Order.{zero-at-initial}
 use Rattle.faust_hash.specs.Chain.{chain_input, chain_of}
-use Rattle.faust_ustor.specs.Checks.{begun, is_known_right}
+use Rattle.faust_ustor.specs.Checks.{begun}
 use Rattle.faust_ustor.specs.Hashed.{chain_inputs, read_inputs}
 use Rattle.faust_ustor.specs.Passed.{clients_after, followed}
-use Rattle.faust_lists.specs.Lists.{count, last_to, EndsWith}
+use Rattle.faust_lists.specs.Lists.{count, last_to}
 use Rattle.faust_lists.specs.Names.{Has}
-use Rattle.faust_lists.specs.Walks.{IsVersionOf, IsWalkOf}
+use Rattle.faust_lists.specs.Walks.{IsWalkOf}
 use Rattle.faust_lists.proofs.Counts.{count-own}
-use Rattle.faust_lists.proofs.Fronts.{last_to-ended, last_to-same}
-use Rattle.faust_lists.proofs.Versions.{IsVersionOf-initial, IsVersionOf-next, IsWalkOf-begun, IsWalkOf-followed, tail-after}
-use Rattle.faust_forks.specs.Books.{Done, Began, Completed, find}
-use Rattle.faust_forks.specs.Sources.{of_commit}
-use Rattle.faust_forks.specs.Pairs.{AreMade, known_pairs, read_pairs, tuple_pairs}
-use Rattle.faust_forks.specs.Pasts.{Past, base_of, done_at, fork_of}
+use Rattle.faust_lists.proofs.Fronts.{last_to-same}
+use Rattle.faust_lists.proofs.Versions.{IsVersionOf-next, IsWalkOf-begun, IsWalkOf-followed, tail-after}
+use Rattle.faust_forks.specs.Books.{Done, Began, Completed}
+use Rattle.faust_forks.specs.Pairs.{known_pairs, read_pairs, tuple_pairs}
+use Rattle.faust_forks.specs.Pasts.{Past, base_of, done_at}
 use Rattle.faust_forks.specs.Forks.{IsAccepted, IsAnchored, IsFork, IsGround, IsHistoryOf, IsSound}
 use Rattle.faust_forks.proofs.Members.{has-left, has-right}
-use Rattle.faust_forks.proofs.Found.{done-named}
-use Rattle.faust_forks.proofs.Made.{AreMade-left, AreMade-right, known-made, made-commit}
+use Rattle.faust_forks.proofs.Made.{AreMade-left, AreMade-right}
 use Rattle.faust_forks.proofs.Booked.{known-history}
-use Rattle.faust_forks.proofs.Settled.{begun-cons, fork-later, fork-nil, settled-cons}
+use Rattle.faust_forks.proofs.Settled.{begun-cons, settled-cons}
 use Rattle.faust_forks.proofs.Walked.{anchored-by, count-after, fork-along}
 
 -- the own last operation is that of the reply's version
