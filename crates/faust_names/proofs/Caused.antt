@@ -52,7 +52,7 @@ ended k [] ends = absurd ends
 ended k (x ∷ w) ends = record { older = w; is = ap (λ (z : ℕ). z ∷ w) ends }
 
 -- a write among the operations of a fork stays
-write-placed : (started : List Begun) (book : List Done) (w : List ℕ) (a : OpName) (begun : Begun) → 1 ≤ a.t → a.t ≤ count a.client w
+pub write-placed : (started : List Begun) (book : List Done) (w : List ℕ) (a : OpName) (begun : Begun) → 1 ≤ a.t → a.t ≤ count a.client w
     → find_begun started a.client a.t ≡ Some begun → begun.kind ≡ Write → IsPlaced (is_kept started book) w a
 write-placed started book w a begun one within found writes =
     let split = ended a.client (upto a.client a.t w) (upto-ends a.client a.t w one within) in

@@ -1,14 +1,16 @@
 -- Cuts of a chronicle whose covered completions stand in line are right.
-use Rattle.std.proofs.Common.{◌≡◌, ℕ, ◌≤◌, Bool, true, List, [], ◌∷◌, ◌++◌, Option, None, Some, refl, sym, ap, ◌∙◌, inl, inr}
+use Rattle.std.proofs.Common.{◌≡◌, ℕ, Bool, List, [], ◌∷◌, ◌++◌, Option, None, Some, refl, sym, ap, ◌∙◌, inl, inr}
+use Rattle.faust_types.specs.Clients.{IsClient}
 use Rattle.faust_types.specs.declared.operation.OpName.{OpName}
 use Rattle.faust_lists.specs.Lists.{AreAlong, IsTail}
 use Rattle.faust_lists.specs.Names.{name_of, Has}
 use Rattle.faust_lists.proofs.Tails.{tail-trans}
 use Rattle.faust_forks.specs.Books.{Begun, Done, find}
 use Rattle.faust_forks.specs.Pasts.{fork_of}
-use Rattle.faust_names.specs.Histories.{Precedes}
+use Rattle.faust_forks.proofs.Settled.{ends-client}
+use Rattle.faust_names.specs.Histories.{named, Precedes}
 use Rattle.faust_names.specs.Views.{IsBefore}
-use Rattle.faust_names.specs.Cuts.{named, IsCovered, IsRightCut, IsRightUpTo, StandInLine}
+use Rattle.faust_names.specs.Cuts.{IsCovered, IsLinearization, IsRightCut, IsRightUpTo, StandInLine}
 use Rattle.faust_names.specs.ForkViews.{history_of, is_kept, last_fork, last_number, listed, view_of}
 use Rattle.faust_names.specs.Chronicles.{IsBacked, IsChronicle}
 use Rattle.faust_names.proofs.Listed.{listed-kept, placed, prefix-listed}
@@ -66,3 +68,15 @@ pub right-cut : (n : ℕ) (started : List Begun) (book : List Done) (i : ℕ) (c
 right-cut n started book i cut chronicle backed = λ t one le.
     let own = backed t one le in
     right-up_to n started book i t cut own.done chronicle own.found own.fits_it
+
+-- where all clients are covered, the front is a linearization: whatever completed is of one of them
+pub right-linear : (n : ℕ) (started : List Begun) (book : List Done) (i t : ℕ) (cut : List ℕ) → IsChronicle n started book
+    → (right : IsRightUpTo n (history_of started book) (view_of started book) i cut t)
+    → ((k : ℕ) → IsClient n k → IsCovered n cut t k) → IsLinearization (history_of started book) right.front
+right-linear n started book i t cut chronicle right all = record {
+  legal = right.legal;
+  real_time = λ a b has precedes.
+      let is = shown started book a precedes.finished precedes.completed in
+      let of_a = chronicle.forks a.client a.t is.done is.found in
+      right.real_time a b (all a.client (ends-client n a.client is.done.fork of_a.known.clients of_a.ends)) has precedes;
+}

@@ -1,10 +1,9 @@
 -- Fork views: their names, and their fronts.
-use Rattle.std.proofs.Common.{◌≡◌, ◌↔◌, ◌⊎◌, ℕ, true, List, [], ◌∷◌, ◌++◌, Some, refl, sym, ap, ◌∙◌, subst, inl, inr}
+use Rattle.std.proofs.Common.{reverse, ◌≡◌, ◌↔◌, ◌⊎◌, ℕ, true, List, [], ◌∷◌, ◌++◌, Some, refl, sym, ap, ◌∙◌, subst, inl, inr}
+use Rattle.std.proofs.lemmas.List.{reverse-append}
 use Rattle.faust_types.specs.declared.operation.OpName.{OpName}
 use Rattle.faust_lists.specs.Lists.{IsTail}
-use Rattle.faust_lists.specs.Names.{name_of, names, sift, Has}
-use Rattle.faust_lists.proofs.Tails.{tail-refl}
-use Rattle.faust_lists.proofs.Sifted.{names-same}
+use Rattle.faust_lists.specs.Names.{name_of, names, Has}
 use Rattle.faust_forks.specs.Books.{Done, find}
 use Rattle.faust_forks.specs.Pasts.{fork_of}
 use Rattle.faust_names.specs.Views.{IsPrefix}
@@ -15,6 +14,16 @@ use Rattle.faust_names.proofs.Listed.{listed-sift, prefix-listed, sift-listed}
 pub fork_view-is : (book : List Done) (a : OpName) (done : Done) → find book a.client a.t ≡ Some done
     → fork_view book a ≡ listed (λ front. true) done.fork
 fork_view-is book a done found = ap (λ (z : List ℕ). listed (λ front. true) z) (ap fork_of found)
+
+-- it is the names of the fork, turned round
+all-reversed : (w : List ℕ) → listed (λ front. true) w ≡ reverse (names w)
+all-reversed [] = refl
+all-reversed (k ∷ w) =
+    ap (λ (z : List OpName). z ++ name_of k w ∷ []) (all-reversed w) ∙ sym (reverse-append (name_of k w ∷ []) (names w))
+
+pub fork_view-reversed : (book : List Done) (a : OpName) (done : Done) → find book a.client a.t ≡ Some done
+    → fork_view book a ≡ reverse (names done.fork)
+fork_view-reversed book a done found = fork_view-is book a done found ∙ all-reversed done.fork
 
 pub fork_view-names : (book : List Done) (a b : OpName) (done : Done) → find book a.client a.t ≡ Some done
     → Has (fork_view book a) b ↔ Has (names done.fork) b

@@ -1,7 +1,7 @@
 -- Sound completions are a chronicle, and its views have all four properties.
 use Rattle.std.proofs.Common.{◌≡◌, ℕ, ◌≤◌, List, Some}
 use Rattle.faust_types.specs.declared.operation.Kind.TheVariants.{Write}
-use Rattle.faust_forks.specs.Books.{Begun, Done, find, find_begun}
+use Rattle.faust_forks.specs.Books.{Begun, Done, find_begun}
 use Rattle.faust_forks.specs.Answers.{AreAnswered}
 use Rattle.faust_forks.specs.Forks.{IsBook}
 use Rattle.faust_forks.specs.Pasts.{Past}

@@ -1,11 +1,11 @@
 -- Which operations stay in a view.
-use Rattle.std.proofs.Common.{◌≡◌, ℕ, suc, Bool, true, false, List, ◌∷◌, Option, None, Some, refl, sym, ap, ◌∙◌, subst, inl, inr}
+use Rattle.std.proofs.Common.{◌≡◌, ◌⊎◌, ℕ, suc, true, false, List, ◌∷◌, Option, None, Some, refl, sym, ap, ◌∙◌, subst, inl, inr}
 use Rattle.std.proofs.lemmas.Bool.{or_cases, or_left, or_parts, or_right, true≢false}
 use Rattle.std.proofs.lemmas.Slice.Eq.{bytes_eq-Decides}
 use Rattle.faust_types.specs.declared.operation.Kind.{Kind}
 use Rattle.faust_types.specs.declared.operation.Kind.TheVariants.{Write, Read}
 use Rattle.faust_lists.specs.Lists.{count}
-use Rattle.faust_forks.specs.Books.{Begun, Done, Completed, find, find_begun}
+use Rattle.faust_forks.specs.Books.{Begun, Done, Began, Completed, find, find_begun}
 use Rattle.faust_names.specs.ForkViews.{has_fork, is_kept, is_write, is_writing}
 
 -- a write stays
@@ -42,6 +42,30 @@ kept-read started book k t w begun number kept found reads =
       | inr fork ↦
           subst (λ (z : ℕ). Completed book k z (λ done. done.fork ≡ k ∷ w)) (sym number)
           (forked book k (suc (count k w)) (k ∷ w) (find book k (suc (count k w))) refl fork)
+    ]
+
+kind-write : (kind : Kind) → is_writing kind ≡ true → kind ≡ Write
+kind-write Write h = refl
+kind-write Read h = absurd (true≢false (sym h))
+
+written : (started : List Begun) (k t : ℕ) (found : Option Begun) → find_begun started k t ≡ found → is_write found ≡ true
+    → Began started k t (λ begun. begun.kind ≡ Write)
+written started k t None is h = absurd (true≢false (sym h))
+written started k t (Some begun) is h = record { begun = begun; found = is; fits_it = kind-write begun.kind h }
+
+-- what stays is a write, or completed with the front as its fork
+pub kept-cases : (started : List Begun) (book : List Done) (k t : ℕ) (w : List ℕ) → t ≡ suc (count k w)
+    → is_kept started book (k ∷ w) ≡ true
+    → Began started k t (λ begun. begun.kind ≡ Write) ⊎ Completed book k t (λ done. done.fork ≡ k ∷ w)
+kept-cases started book k t w number kept =
+    let s : ℕ = suc (count k w) in
+    elim (or_cases (is_write (find_begun started k s)) (has_fork (find book k s) (k ∷ w)) kept) [
+      | inl writes ↦
+          inl (subst (λ (z : ℕ). Began started k z (λ begun. begun.kind ≡ Write)) (sym number)
+          (written started k s (find_begun started k s) refl writes))
+      | inr fork ↦
+          inr (subst (λ (z : ℕ). Completed book k z (λ done. done.fork ≡ k ∷ w)) (sym number)
+          (forked book k s (k ∷ w) (find book k s) refl fork))
     ]
 
 kind-read : (kind : Kind) → is_writing kind ≡ false → kind ≡ Read

@@ -1,21 +1,21 @@
 -- Forks of a chronicle: where their operations stand, which of them completed, and what real time says of them.
-use Rattle.std.proofs.Common.{◌≡◌, ℕ, ◌<◌, ◌≤◌, suc, Bool, true, List, [], ◌∷◌, Option, None, Some, refl, sym, ap, ◌∙◌, subst, inl, inr, arith}
+use Rattle.std.proofs.Common.{◌≡◌, ℕ, ◌<◌, ◌≤◌, suc, Bool, true, List, [], ◌∷◌, Option}
+use Rattle.std.proofs.Common.{None, Some, refl, sym, ap, ◌∙◌, subst, inl, inr, arith}
 use Rattle.std.proofs.lemmas.Bool.{cases_lt}
 use Rattle.faust_types.specs.declared.operation.OpName.{OpName}
 use Rattle.faust_lists.specs.Lists.{count, upto, EndsWith, IsTail}
-use Rattle.faust_lists.specs.Names.{Has, IsKept}
+use Rattle.faust_lists.specs.Names.{IsKept}
 use Rattle.faust_lists.proofs.Counts.{count-own}
-use Rattle.faust_lists.proofs.Tails.{count-tail, tail-linear, tail-refl, tail-trans}
-use Rattle.faust_lists.proofs.Fronts.{upto-ended, upto-own, upto-tail}
+use Rattle.faust_lists.proofs.Tails.{count-tail, tail-linear, tail-refl}
+use Rattle.faust_lists.proofs.Fronts.{upto-ended, upto-own}
 use Rattle.faust_forks.specs.Books.{Begun, Done, Began, Completed, find, find_begun}
-use Rattle.faust_forks.specs.Pasts.{fork_of}
 use Rattle.faust_forks.proofs.Found.{found-once, some-same}
 use Rattle.faust_forks.proofs.Settled.{ends-counted}
 use Rattle.faust_forks.proofs.Answering.{counted-client}
-use Rattle.faust_names.specs.Histories.{Finished, History, IsCompleted, Precedes}
+use Rattle.faust_names.specs.Histories.{Finished, IsCompleted, Precedes}
 use Rattle.faust_names.specs.Views.{HasLater, IsBefore}
 use Rattle.faust_names.specs.ForkViews.{history_of, is_kept, listed, seen}
-use Rattle.faust_names.specs.Chronicles.{IsChronicle, IsForkOf, IsKnown}
+use Rattle.faust_names.specs.Chronicles.{IsChronicle, IsKnown}
 use Rattle.faust_names.proofs.Listed.{IsPlaced, listed-has, older-before, placed-has}
 use Rattle.faust_names.proofs.Kept.{kept-fork}
 

@@ -93,7 +93,7 @@ pub record IsKnownByEnd (n : ℕ) (started : List Begun) (book : List Done) (w :
   pub entry : ℕ
   pub known : IsKnown n started book entry w
 
-found-known : (n : ℕ) (started : List Begun) (book : List Done) (k t : ℕ) (found : Option Done)
+pub found-known : (n : ℕ) (started : List Begun) (book : List Done) (k t : ℕ) (found : Option Done)
     → ((done : Done) → found ≡ Some done → IsForkOf n started book k t done) → IsKnownByEnd n started book (fork_of found)
 found-known n started book k t None each = record { entry = 0; known = known-nil n started book }
 found-known n started book k t (Some done) each = record { entry = done.entry; known = (each done refl).known }

@@ -22,3 +22,7 @@ pub mod Holding
 pub mod Cutting
 -- Fork views.
 pub mod ForkNames
+-- A view is what stays of a fork view.
+pub mod Staying
+-- What fork views tell.
+pub mod Telling

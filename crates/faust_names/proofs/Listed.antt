@@ -1,17 +1,17 @@
 -- The names that a test keeps of a fork, the first one first: which they are, in which order, and their fronts.
-use Rattle.std.proofs.Common.{◌≡◌, ◌⊎◌, ℕ, ◌≤◌, suc, Bool, true, false, List, [], ◌∷◌, ◌++◌, refl, sym, subst, inl, inr}
+use Rattle.std.proofs.Common.{◌≡◌, ◌⊎◌, ℕ, suc, Bool, true, false, List, [], ◌∷◌, ◌++◌, refl, sym, subst, inl, inr}
 use Rattle.std.proofs.lemmas.Bool.{cond-true, cond-false, cases_Bool}
 use Rattle.faust_types.specs.declared.operation.OpName.{OpName}
 use Rattle.faust_lists.specs.Lists.{count, IsTail}
 use Rattle.faust_lists.specs.Names.{name_of, sift, Before, Has, IsKept}
 use Rattle.faust_lists.proofs.Counts.{sift-kept, sift-dropped}
-use Rattle.faust_lists.proofs.Tails.{tail-refl}
 use Rattle.faust_lists.proofs.Sifted.{has-kept, has-tail, kept-has, name-same, sift-tail}
 use Rattle.faust_lists.proofs.Orders.{before-sift, sift-before}
 use Rattle.faust_forks.proofs.Members.{has-left, has-right}
 use Rattle.faust_names.specs.Views.{IsBefore, IsPrefix}
 use Rattle.faust_names.specs.ForkViews.{listed}
-use Rattle.faust_names.proofs.Snocs.{before-last, before-left, before-snoc, has-snoc, nil-snoc, prefix-left, prefix-nil, prefix-refl, prefix-snoc, prefix-trans, snoc-same}
+use Rattle.faust_names.proofs.Snocs.{before-last, before-left, before-snoc, has-snoc, nil-snoc, prefix-left}
+use Rattle.faust_names.proofs.Snocs.{prefix-nil, prefix-refl, prefix-snoc, prefix-trans, snoc-same}
 
 pub listed-kept : (keep : List ℕ → Bool) (k : ℕ) (w : List ℕ) → keep (k ∷ w) ≡ true
     → listed keep (k ∷ w) ≡ listed keep w ++ name_of k w ∷ []

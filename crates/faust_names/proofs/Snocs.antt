@@ -1,5 +1,5 @@
 -- Lists that have the first one first and grow at their end: what stands in them, in which order, and their fronts.
-use Rattle.std.proofs.Common.{◌≡◌, ◌⊎◌, List, [], ◌∷◌, ◌++◌, refl, sym, ap, ◌∙◌, subst, inl, inr}
+use Rattle.std.proofs.Common.{◌≡◌, ◌⊎◌, List, [], ◌∷◌, ◌++◌, refl, sym, ap, ◌∙◌, inl, inr}
 use Rattle.faust_lists.specs.Names.{Has}
 use Rattle.faust_forks.proofs.Members.{has-left, has-right}
 use Rattle.faust_names.specs.Views.{IsBefore, IsPrefix}

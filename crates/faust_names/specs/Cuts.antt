@@ -4,12 +4,8 @@ use Rattle.std.specs.Prelude.{◌≡◌, ℕ, ◌-◌, ◌≤◌, ◌⊎◌, Lis
 use Rattle.faust_types.specs.Clients.{IsClient}
 use Rattle.faust_types.specs.declared.operation.OpName.{OpName}
 use Rattle.faust_lists.specs.Names.{Has}
-use Rattle.faust_names.specs.Histories.{History, Precedes}
+use Rattle.faust_names.specs.Histories.{named, History, Precedes}
 use Rattle.faust_names.specs.Views.{IsBefore, IsLegal, IsPrefix}
-
--- The name of operation t of client k.
-abbrev pub named : ℕ → ℕ → OpName
-named k t = record { client = k; t = t }
 
 -- The number that a cut has for client k.
 abbrev pub number_at : List ℕ → ℕ → ℕ
@@ -19,6 +15,12 @@ number_at cut k = slice_index cut (k - 1)
 pub record IsCovered (n : ℕ) (cut : List ℕ) (t k : ℕ) : Type 0 where
   pub client : IsClient n k
   pub reached : t ≤ number_at cut k
+
+-- A list is a linearization of what it holds: it is legal, and what completed before one of its operations began stands
+-- in it before that one.
+pub record IsLinearization (h : History) (l : List OpName) : Type 0 where
+  pub legal : IsLegal h l
+  pub real_time : (a b : OpName) → Has l b → Precedes h a b → IsBefore l a b
 
 -- One of two lists begins with the other.
 abbrev pub StandInLine : {X : Type 0} → List X → List X → Type 0

@@ -1,6 +1,6 @@
 -- The history, the fork views and the views that a book of completions has. The promise on views and cuts is made of
 -- these lists.
-use Rattle.std.specs.Prelude.{ℕ, ◌==◌, ◌||◌, suc, max, nat_eq, Bool, true, false, cond, List, [], ◌∷◌, ◌++◌, Option, None, Some}
+use Rattle.std.specs.Prelude.{ℕ, ◌==◌, ◌||◌, suc, max, Bool, true, false, cond, List, [], ◌∷◌, ◌++◌, Option, None, Some}
 use Rattle.std.specs.Str.{bytes_eq}
 use Rattle.faust_types.specs.declared.operation.Kind.{Kind}
 use Rattle.faust_types.specs.declared.operation.Kind.TheVariants.{Write, Read}

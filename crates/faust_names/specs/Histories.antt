@@ -5,6 +5,10 @@ use Rattle.faust_types.specs.declared.operation.Kind.TheVariants.{Write}
 use Rattle.faust_types.specs.declared.operation.OpName.{OpName}
 use Rattle.faust_forks.specs.Books.{Begun}
 
+-- The name of operation t of client k.
+abbrev pub named : ℕ → ℕ → OpName
+named k t = record { client = k; t = t }
+
 -- How an operation completed: in which entry, and what a read answered: a value or none, and the number of the
 -- register's operation as of which it is the last written one.
 pub record Finished : Type 0 where
