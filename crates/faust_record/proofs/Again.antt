@@ -63,7 +63,8 @@ read-taken : (config : Config) (me : ℕ) (st : Client) (register : ℕ) → is_
     → refusal_at config me st (inputs.Read register) ≡ None
 read-taken config me st register idle client =
     let known : is_register config.clients register ≡ true =
-    and_from (nat_le 1 register) (nat_le register config.clients) (le-leb 1 register client.from_one) (le-leb register config.clients client.to_n) in
+    and_from (nat_le 1 register) (nat_le register config.clients) (le-leb 1 register client.from_one)
+    (le-leb register config.clients client.to_n) in
     cond-true (is_register config.clients register) (begin_refused me st) (Some refusals.NoRegister) known ∙ idle-begins me st idle
 
 same-entry : (number i n : ℕ) (input : Input) (outcome due : Outcome) → number ≡ n → outcome ≡ due
@@ -86,7 +87,8 @@ acted-again run i number input outcome number_is outcome_is taken =
     (same-entry number i (length run.entries) input outcome (outcome_at run.config i st input) number_is outcome_is)
 
 entry-again : (run : Run) (i number : ℕ) (input : Input) (outcome : Outcome) → number ≡ length run.entries
-    → IsStep run.config i (replay run.config i (entries_of i run.entries)) (record { number = number; client = i; input = input; outcome = outcome })
+    → IsStep run.config i (replay run.config i (entries_of i run.entries))
+    (record { number = number; client = i; input = input; outcome = outcome })
     → IsFed run.entries (record { number = number; client = i; input = input; outcome = outcome })
     → push_of run i (pushed_as input) ≡ Ok (recorded run (record { number = number; client = i; input = input; outcome = outcome }))
 unfolding arrived
@@ -108,7 +110,8 @@ entry-again run i number (inputs.Arrive message) outcome number_is step fed =
     let st = replay run.config i (entries_of i run.entries) in
     let given : outcome ≡ nothing = step.outcome_is ∙ sym (outcome-arrival run.config i st message) in
     ap (arrived_at run i) fed
-    ∙ ap (λ (e : Entry). Ok (recorded run e)) (same-entry number i (length run.entries) (inputs.Arrive message) outcome nothing number_is given)
+    ∙ ap (λ (e : Entry). Ok (recorded run e))
+    (same-entry number i (length run.entries) (inputs.Arrive message) outcome nothing number_is given)
 
 last-again : (config : Config) (front : List Entry) (e : Entry) → IsRun config (front ++ e ∷ [])
     → push_of (record { config = config; entries = front }) e.client (pushed_as e.input)
@@ -116,7 +119,8 @@ last-again : (config : Config) (front : List Entry) (e : Entry) → IsRun config
 last-again config front e run =
     let client = clients-last config.clients front e run.of_clients in
     let number : e.number ≡ length front = numbered-last 0 front e run.numbered ∙ omega arith in
-    let own = subst (λ (l : List Entry). Obeys config e.client (first_client config.clients e.client) l) (entries_of-own e.client front e refl)
+    let own = subst (λ (l : List Entry). Obeys config e.client (first_client config.clients e.client) l)
+    (entries_of-own e.client front e refl)
     (run.obeyed e.client client) in
     let step : IsStep config e.client (replay config e.client (entries_of e.client front)) e =
     obeys-last config e.client (first_client config.clients e.client) (entries_of e.client front) e own in

@@ -17,7 +17,8 @@ use Rattle.faust_record.proofs.Own.{entries_of-other, entries_of-own, member_aft
 use Rattle.faust_record.proofs.Inputs.{member-arrival}
 
 -- another item in the place of one client
-pub set-own : {X : Type 0} (xs : List X) (i : ℕ) (x d : X) (n : ℕ) → length xs ≡ n → IsClient n i → get_or (slice_set xs (i - 1) x) (i - 1) d ≡ x
+pub set-own : {X : Type 0} (xs : List X) (i : ℕ) (x d : X) (n : ℕ) → length xs ≡ n → IsClient n i
+    → get_or (slice_set xs (i - 1) x) (i - 1) d ≡ x
 set-own xs i x d n counted client = get_or-set_at xs (i - 1) (i - 1) x d refl (omega (arith, client.from_one, client.to_n, counted))
 
 pub set-other : {X : Type 0} (xs : List X) (i j : ℕ) (x d : X) (n : ℕ) → IsClient n i → IsClient n j → (i ≡ j → ⊥)
@@ -38,9 +39,12 @@ replayed-own config agents xs e now kept client moved = record {
         set-own agents e.client now (first_member config e.client) config.clients kept.counted client in
         let before : now ≡ member_at (member_after config e.client (entries_of e.client xs)) e.input =
         moved ∙ ap (λ (m : Member). member_at m e.input) (kept.each e.client client) in
-        let after : member_at (member_after config e.client (entries_of e.client xs)) e.input ≡ member_after config e.client (entries_of e.client (xs ++ e ∷ [])) =
-        sym (ap (member_after config e.client) (entries_of-own e.client xs e refl) ∙ member_after-append config e.client (entries_of e.client xs) e) in
-        subst (λ (k : ℕ). agent_in config (slice_set agents (e.client - 1) now) k ≡ member_after config k (entries_of k (xs ++ e ∷ []))) own
+        let after : member_at (member_after config e.client (entries_of e.client xs)) e.input ≡ member_after config e.client
+        (entries_of e.client (xs ++ e ∷ [])) =
+        sym (ap (member_after config e.client) (entries_of-own e.client xs e refl)
+        ∙ member_after-append config e.client (entries_of e.client xs) e) in
+        subst (λ (k : ℕ). agent_in config (slice_set agents (e.client - 1) now) k ≡ member_after config k
+        (entries_of k (xs ++ e ∷ []))) own
         (same ∙ before ∙ after)
     | inr other ↦
         set-other agents e.client i now (first_member config i) config.clients client within other

@@ -24,7 +24,8 @@ placed-at n [] q d all inside = absurd (omega (arith, inside))
 placed-at n (x ∷ xs) zero d all inside = all.0
 placed-at n (x ∷ xs) (suc q) d all inside = placed-at n xs q d all.1 (omega (arith, inside))
 
-pub entry-placed : (n : ℕ) (xs : List Entry) (q : ℕ) (e d : Entry) → ArePlacedFor n xs → q < length xs → e ≡ get_or xs q d → IsPlacedFor n e
+pub entry-placed : (n : ℕ) (xs : List Entry) (q : ℕ) (e d : Entry) → ArePlacedFor n xs → q < length xs → e ≡ get_or xs q d
+    → IsPlacedFor n e
 entry-placed n xs q e d all inside read = subst (IsPlacedFor n) (sym read) (placed-at n xs q d all inside)
 
 pub act-client : (n : ℕ) (xs : List Entry) (q : ℕ) (e d : Entry) → ArePlacedFor n xs → q < length xs → e ≡ get_or xs q d
@@ -172,7 +173,8 @@ few-here n outboxes all q e at fed client =
     omega (arith, same, arrived-few (entries_of e.client (take q all)), own-few e.client (take q all), at.sized)
 
 -- what delivering answers
-pub delivered-next : {Done : Type 0} (result : Result Done MergeError) (n : ℕ) (outboxes : List Outbox) (all : List Entry) (q : ℕ) (e : Entry)
+pub delivered-next : {Done : Type 0} (result : Result Done MergeError) (n : ℕ) (outboxes : List Outbox) (all : List Entry) (q : ℕ)
+    (e : Entry)
     (message : List ℕ) (now : Outbox) → IsAt all q e → AreFedTo n outboxes (take q all) (drop q all) all → arriving e.input ≡ Some message
     → e.outcome ≡ nothing → IsClient n e.client
     → Delivers result e.client (message_at all (outbox_in outboxes e.client)) (outbox_in outboxes e.client) now message
@@ -181,8 +183,10 @@ delivered-next {Done} (Ok done) n outboxes all q e message now at fed arrival al
     let due : is_due (next_message e.client (take q all)) message ≡ true =
     ap (λ (o : Option (List ℕ)). is_due o message) (sym (due-here n outboxes all q e at fed client)) ∙ delivers.0 in
     fed-next n (slice_set outboxes (e.client - 1) now) all q e at
-    (fed-delivered n outboxes (take q all) (drop (q + 1) all) all e message now (fed-here n outboxes all q e at fed) arrival alone client due delivers.1)
-delivered-next {Done} (Err (merges.Client place other)) n outboxes all q e message now at fed arrival alone client delivers = absurd delivers
+    (fed-delivered n outboxes (take q all) (drop (q + 1) all) all e message now (fed-here n outboxes all q e at fed) arrival alone
+    client due delivers.1)
+delivered-next {Done} (Err (merges.Client place other)) n outboxes all q e message now at fed arrival alone client delivers = absurd
+    delivers
 delivered-next {Done} (Err (merges.Frame i index sent got)) n outboxes all q e message now at fed arrival alone client delivers =
     let same = due-here n outboxes all q e at fed client in
     let due : is_due (next_message e.client (take q all)) message ≡ false =
@@ -228,7 +232,8 @@ due-choice : {P : Type 0} (b : Bool) (frame : MergeError) (later : Option MergeE
 due-choice {P} true frame later none tells = (tells refl, none)
 due-choice {P} false frame later none tells = absurd (cc)
 
-frame-none : (i : ℕ) (before : List Entry) (arrival : Option (List ℕ)) (later : Option MergeError) → or_else (frame_at i before arrival) later ≡ None
+frame-none : (i : ℕ) (before : List Entry) (arrival : Option (List ℕ)) (later : Option MergeError)
+    → or_else (frame_at i before arrival) later ≡ None
     → IfSome arrival (λ message. next_message i before ≡ Some message) × (later ≡ None)
 frame-none i before None later none = (tt, none)
 frame-none i before (Some message) later none =

@@ -24,7 +24,8 @@ pub front_of_run : (config : Config) (front rest : List Entry) → IsRun config 
 front_of_run config front rest run = run-front config front rest run
 
 -- one more item of both lists, or of the longer one
-next-item : {X : Type 0} (front rest : List X) (x : X) → slice_get (front ++ rest) (length front) ≡ Some x → IsPrefix (front ++ x ∷ []) (front ++ rest)
+next-item : {X : Type 0} (front rest : List X) (x : X) → slice_get (front ++ rest) (length front) ≡ Some x
+    → IsPrefix (front ++ x ∷ []) (front ++ rest)
 next-item {X} [] [] x found = absurd (cc)
 next-item {X} [] (y ∷ rest) x found =
     let same : y ≡ x = cc in
@@ -36,7 +37,8 @@ next-item {X} (y ∷ front) rest x found =
 prefix-grows : {X : Type 0} (front whole : List X) (x : X) → IsPrefix front whole → slice_get whole (length front) ≡ Some x
     → IsPrefix (front ++ x ∷ []) whole
 prefix-grows {X} front whole x prefix found =
-    let here : slice_get (front ++ prefix.rest) (length front) ≡ Some x = ap (λ (l : List X). slice_get l (length front)) (sym prefix.is_whole) ∙ found in
+    let here : slice_get (front ++ prefix.rest) (length front) ≡ Some x = ap (λ (l : List X). slice_get l (length front))
+    (sym prefix.is_whole) ∙ found in
     subst (λ (l : List X). IsPrefix (front ++ x ∷ []) l) (sym prefix.is_whole) (next-item front prefix.rest x here)
 
 prefix-longer : {X : Type 0} (front whole more : List X) → IsPrefix front whole → IsPrefix front (whole ++ more)

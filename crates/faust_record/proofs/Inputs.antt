@@ -57,7 +57,8 @@ begins-idle None true taken = refl
 begins-idle None false taken = absurd (cc)
 begins-idle (Some notice) idle taken = absurd (cc)
 
-may-write : (me : ℕ) (st : Client) (value : List ℕ) → cond (nat_le (length value) 4096) (begin_refused me st) (Some refusals.TooLong) ≡ None
+may-write : (me : ℕ) (st : Client) (value : List ℕ) → cond (nat_le (length value) 4096) (begin_refused me st) (Some refusals.TooLong)
+    ≡ None
     → AreBytes value → (is_idle me st ≡ true) × (length value ≤ 4096)
 may-write me st value taken bytes =
     let parts = taken-parts (nat_le (length value) 4096) (begin_refused me st) refusals.TooLong taken in

@@ -58,7 +58,8 @@ placed-own n me (x ∷ xs) client own =
     } in
     (here, placed-own n me xs client own.1)
 
-placed-logs : (config : Config) (logs : List Log) → AreJournals logs → AreOfConfig config logs → ArePlacedFor config.clients (logged_in logs)
+placed-logs : (config : Config) (logs : List Log) → AreJournals logs → AreOfConfig config logs
+    → ArePlacedFor config.clients (logged_in logs)
 placed-logs config [] journals same = tt
 placed-logs config (log ∷ rest) journals same =
     let client : IsClient config.clients log.me = subst (λ (c : Config). IsClient c.clients log.me) same.0 journals.0.me_in_range in
@@ -90,7 +91,8 @@ arrival-is (inputs.Peer bytes) message is = absurd (none-is-some message is)
 arrival-is (inputs.Tick moment) message is = absurd (none-is-some message is)
 arrival-is (inputs.Arrive other) message is = let same : other ≡ message = cc in ap (λ (m : List ℕ). inputs.Arrive m) same
 
-arrival-step : (config : Config) (i : ℕ) (st : Client) (e : Entry) (message : List ℕ) → arriving e.input ≡ Some message → e.outcome ≡ nothing
+arrival-step : (config : Config) (i : ℕ) (st : Client) (e : Entry) (message : List ℕ) → arriving e.input ≡ Some message
+    → e.outcome ≡ nothing
     → IsStep config i st e
 arrival-step config i st e message arrival alone =
     let is : e.input ≡ inputs.Arrive message = arrival-is e.input message arrival in
@@ -141,7 +143,8 @@ replayed-with config i st (x ∷ xs) =
 all-kept : (i : ℕ) (xs : List Entry) → AreOwn i xs → sifted (is_act i) xs ≡ xs
 all-kept i [] own = refl
 all-kept i (x ∷ xs) own =
-    ap (λ (b : Bool). cond (b && is_none (arriving x.input)) (x ∷ sifted (is_act i) xs) (sifted (is_act i) xs)) (eq-eqb x.client i own.0.of_client)
+    ap (λ (b : Bool). cond (b && is_none (arriving x.input)) (x ∷ sifted (is_act i) xs) (sifted (is_act i) xs))
+    (eq-eqb x.client i own.0.of_client)
     ∙ ap (λ (o : Option (List ℕ)). cond (is_none o) (x ∷ sifted (is_act i) xs) (sifted (is_act i) xs)) own.0.no_arrival
     ∙ ap (λ (l : List Entry). x ∷ l) (all-kept i xs own.1)
 
@@ -188,7 +191,8 @@ pub record IsLogOf (config : Config) (i : ℕ) (log : Log) (all : List Entry) : 
   pub me_is : log.me ≡ i
   pub acts : sifted (is_act i) all ≡ log.entries
 
-log-of : (config : Config) (place i : ℕ) (logs : List Log) (d : Log) → first_stranger place logs ≡ None → AreJournals logs → AreOfConfig config logs
+log-of : (config : Config) (place i : ℕ) (logs : List Log) (d : Log) → first_stranger place logs ≡ None → AreJournals logs
+    → AreOfConfig config logs
     → place ≤ i → i - place < length logs → IsLogOf config i (get_or logs (i - place) d) (logged_in logs)
 log-of config place i [] d none journals same from inside = absurd (omega (arith, inside))
 log-of config place i (log ∷ rest) d none journals same from inside =
@@ -208,7 +212,8 @@ log-of config place i (log ∷ rest) d none journals same from inside =
       | inr later ↦
           let next : suc (i - suc place) ≡ i - place = omega (arith, from, later) in
           let other : log.me ≡ i → ⊥ = λ me_is. later (sym me_is ∙ here.0) in
-          let found = log-of config (suc place) i rest d here.1 journals.1 same.1 (omega (arith, from, later)) (omega (arith, inside, next)) in
+          let found = log-of config (suc place) i rest d here.1 journals.1 same.1 (omega (arith, from, later))
+          (omega (arith, inside, next)) in
           let acts : sifted (is_act i) (logged_in (log ∷ rest)) ≡ (get_or rest (i - suc place) d).entries =
           sifted-append (is_act i) log.entries (logged_in rest)
           ∙ ap (λ (l : List Entry). l ++ sifted (is_act i) (logged_in rest)) (none-kept i log.me log.entries journals.0.own other)
@@ -218,7 +223,8 @@ log-of config place i (log ∷ rest) d none journals same from inside =
     ]
 
 -- the same among all in the order of their numbers
-pub log-sorted : (config : Config) (logs : List Log) (arrivals : List Arrival) (i : ℕ) (d : Log) → first_stranger 1 logs ≡ None → AreJournals logs
+pub log-sorted : (config : Config) (logs : List Log) (arrivals : List Arrival) (i : ℕ) (d : Log) → first_stranger 1 logs ≡ None
+    → AreJournals logs
     → AreOfConfig config logs → length logs ≡ config.clients → IsClient config.clients i
     → IsLogOf config i (get_or logs (i - 1) d) (by_number (gathered logs arrivals))
 log-sorted config logs arrivals i d none journals same counted client =
@@ -251,11 +257,14 @@ log-replayed config i log all is =
     ap (λ (c : Config). member_after c log.me log.entries) is.config_is
     ∙ ap (λ (k : ℕ). member_after config k log.entries) is.me_is
     ∙ ap (member_after config i) (sym is.acts)
-    ∙ ap (λ (st : Client). record { config = config; me = i; client = st }) (sym (replayed-with config i (first_client config.clients i) all))
+    ∙ ap (λ (st : Client). record { config = config; me = i; client = st })
+    (sym (replayed-with config i (first_client config.clients i) all))
 
 -- what is merged
-pub merged-parts : (config : Config) (logs : List Log) (arrivals : List Arrival) (agents : List Member) (outboxes : List Outbox) → IsConfig config
-    → length logs ≡ config.clients → AreOfConfig config logs → AreEachBelow (numbers_of (gathered logs arrivals)) → first_stranger 1 logs ≡ None
+pub merged-parts : (config : Config) (logs : List Log) (arrivals : List Arrival) (agents : List Member) (outboxes : List Outbox)
+    → IsConfig config
+    → length logs ≡ config.clients → AreOfConfig config logs → AreEachBelow (numbers_of (gathered logs arrivals))
+    → first_stranger 1 logs ≡ None
     → AreJournals logs → agents ≡ map member_of logs → AreAllFed config.clients outboxes (by_number (gathered logs arrivals))
     → AreParts config agents outboxes (by_number (gathered logs arrivals))
 merged-parts config logs arrivals agents outboxes range counted same numbers none journals agents_are fed =
@@ -263,16 +272,22 @@ merged-parts config logs arrivals agents outboxes range counted same numbers non
     let blank : Log = first_log config 0 in
     let log_at : (i : ℕ) → IsClient config.clients i → IsLogOf config i (get_or logs (i - 1) blank) all =
     λ i client. log-sorted config logs arrivals i blank none journals same counted client in
-    let in_agents : (i : ℕ) → IsClient config.clients i → agent_in config (map member_of logs) i ≡ member_after config i (entries_of i all) =
+    let in_agents : (i : ℕ) → IsClient config.clients i → agent_in config (map member_of logs) i ≡ member_after config i
+    (entries_of i all) =
     λ i client. get_or-map member_of logs (i - 1) blank (first_member config i) (omega (arith, counted, client.from_one, client.to_n))
     ∙ log-replayed config i (get_or logs (i - 1) blank) all (log_at i client) in
-    let replayed : AreReplayed config (map member_of logs) all = record { counted = length-map logs member_of ∙ counted; each = in_agents } in
+    let replayed : AreReplayed config (map member_of logs) all = record {
+      counted = length-map logs member_of
+          ∙ counted;
+      each = in_agents;
+    } in
     record {
       run = record {
         config_in_range = range;
         numbered = (by_number-counted numbers.count (gathered logs arrivals) numbers.each_once).numbered;
         of_clients = fed.of_clients;
-        obeyed = λ i client. log-obeyed config i (get_or logs (i - 1) blank) all (log_at i client) (placed-gathered config logs arrivals journals same);
+        obeyed = λ i client. log-obeyed config i (get_or logs (i - 1) blank) all (log_at i client)
+            (placed-gathered config logs arrivals journals same);
         fed = all-fed [] all fed.none_left;
       };
       replayed = subst (λ (l : List Member). AreReplayed config l all) (sym agents_are) replayed;
@@ -280,7 +295,8 @@ merged-parts config logs arrivals agents outboxes range counted same numbers non
     }
 
 -- the table of all entries
-pub table-is : (logs : List Log) (arrivals : List Arrival) (room behind table : List Entry) → AreEachBelow (numbers_of (gathered logs arrivals))
+pub table-is : (logs : List Log) (arrivals : List Arrival) (room behind table : List Entry)
+    → AreEachBelow (numbers_of (gathered logs arrivals))
     → length room ≡ length (gathered logs arrivals) → behind ≡ placed room (map entry_of arrivals) → table ≡ placed behind (logged_in logs)
     → table ≡ by_number (gathered logs arrivals)
 table-is logs arrivals room behind table numbers sized behind_is table_is =
@@ -295,8 +311,10 @@ arrivals-below logs arrivals m numbers sized =
     (below-append (length (gathered logs arrivals)) (logged_in logs) (map entry_of arrivals)
     (below-counted numbers.count (gathered logs arrivals) numbers.each_once)).1
 
-pub logs-below : (logs : List Log) (arrivals : List Arrival) (room behind : List Entry) → AreEachBelow (numbers_of (gathered logs arrivals))
-    → length room ≡ length (gathered logs arrivals) → behind ≡ placed room (map entry_of arrivals) → AreBelow (length behind) (logged_in logs)
+pub logs-below : (logs : List Log) (arrivals : List Arrival) (room behind : List Entry)
+    → AreEachBelow (numbers_of (gathered logs arrivals))
+    → length room ≡ length (gathered logs arrivals) → behind ≡ placed room (map entry_of arrivals)
+    → AreBelow (length behind) (logged_in logs)
 logs-below logs arrivals room behind numbers sized behind_is =
     let same : length behind ≡ length (gathered logs arrivals) =
     ap (length {A = Entry}) behind_is ∙ length-placed room (map entry_of arrivals) ∙ sized in

@@ -40,7 +40,8 @@ sent-own i xs e own =
     ∙ ap (λ (k : ℕ). places_of i 0 xs ++ cond (is_some e.outcome.to_server) (k ∷ []) []) place
 
 arrived-own : (i : ℕ) (xs : List Entry) (e : Entry) → e.client ≡ i
-    → length (arrived_in (entries_of i (xs ++ e ∷ []))) ≡ length (arrived_in (entries_of i xs)) + length (option_to_list (arriving e.input))
+    → length (arrived_in (entries_of i (xs ++ e ∷ []))) ≡ length (arrived_in (entries_of i xs)) + length
+    (option_to_list (arriving e.input))
 arrived-own i xs e own =
     ap (λ (l : List Entry). length (arrived_in l)) (entries_of-own i xs e own)
     ∙ ap (length {A = List ℕ}) (arrived_in-append (entries_of i xs) (e ∷ []))
@@ -48,7 +49,8 @@ arrived-own i xs e own =
     ∙ ap (λ (l : List (List ℕ)). length (arrived_in (entries_of i xs)) + length l) (append-nil (option_to_list (arriving e.input)))
 
 sent_after-parts : (sent : List ℕ) (count place : ℕ) (message : Option (List ℕ))
-    → record { sent = sent ++ cond (is_some message) (place ∷ []) []; arrived = count } ≡ sent_after (record { sent = sent; arrived = count }) place message
+    → record { sent = sent ++ cond (is_some message) (place ∷ []) []; arrived = count } ≡ sent_after
+    (record { sent = sent; arrived = count }) place message
 sent_after-parts sent count place None = ap (λ (l : List ℕ). record { sent = l; arrived = count }) (append-nil sent)
 sent_after-parts sent count place (Some message) = refl
 
@@ -76,7 +78,8 @@ outbox-arrival i xs e message own input nothing =
     ∙ ap (λ (l : List ℕ). record { sent = l; arrived = count + 1 }) sent
 
 -- all outboxes, where that of the client was set
-pub filled-set : (n : ℕ) (outboxes : List Outbox) (xs : List Entry) (e : Entry) (now : Outbox) → AreFilled n outboxes xs → IsClient n e.client
+pub filled-set : (n : ℕ) (outboxes : List Outbox) (xs : List Entry) (e : Entry) (now : Outbox) → AreFilled n outboxes xs
+    → IsClient n e.client
     → now ≡ outbox_of e.client (xs ++ e ∷ []) → AreFilled n (slice_set outboxes (e.client - 1) now) (xs ++ e ∷ [])
 filled-set n outboxes xs e now kept client set_is = record {
   counted = length-set outboxes (e.client - 1) now ∙ kept.counted;

@@ -51,7 +51,8 @@ parts-acted config agents outboxes xs now i input new filled kept client own act
       replayed = replayed-own config agents xs entry new kept.replayed client moved;
       filled = filled-set config.clients outboxes xs entry filled kept.filled client filled_is;
     } in
-    subst (λ (l : List Entry). AreParts config (slice_set agents (i - 1) new) (slice_set outboxes (i - 1) filled) l) (sym act.appended) parts
+    subst (λ (l : List Entry). AreParts config (slice_set agents (i - 1) new) (slice_set outboxes (i - 1) filled) l)
+    (sym act.appended) parts
 
 pub push-taken : (run : Run) (i : ℕ) (input : Input) (now : List Entry) (new : Member) (outbox filled : Outbox)
     → IsActedIn run.entries now (member_after run.config i (entries_of i run.entries)) new outbox filled input
@@ -75,7 +76,8 @@ pub push-refused : (refusal : Refusal) (run same : Run) (i : ℕ) (input : Input
     → Refused refusal run.entries now (member_after run.config i (entries_of i run.entries)) new input
     → same ≡ run → PushRefuses (as_push_error refusal) run same (acted run i input)
 push-refused refusals.TooLong run same i input now new refused kept = (kept, refused-due run i input refusals.TooLong refused.refused)
-push-refused refusals.NoRegister run same i input now new refused kept = (kept, refused-due run i input refusals.NoRegister refused.refused)
+push-refused refusals.NoRegister run same i input now new refused kept =
+    (kept, refused-due run i input refusals.NoRegister refused.refused)
 push-refused (refusals.Failed notice) run same i input now new refused kept =
     (kept, refused-due run i input (refusals.Failed notice) refused.refused)
 push-refused refusals.Busy run same i input now new refused kept = (kept, refused-due run i input refusals.Busy refused.refused)
@@ -104,7 +106,8 @@ pub parts-arrived : (config : Config) (agents : List Member) (outboxes : List Ou
 parts-arrived config agents outboxes xs i message outbox taken kept client due outbox_is taken_is =
     let entry : Entry = arrival_at i (length xs) message in
     let filled : taken ≡ outbox_of i (xs ++ entry ∷ []) =
-    taken_is ∙ ap (λ (o : Outbox). record o { arrived = o.arrived + 1 }) outbox_is ∙ sym (outbox-arrival i xs entry message refl refl refl) in
+    taken_is ∙ ap (λ (o : Outbox). record o { arrived = o.arrived + 1 }) outbox_is
+    ∙ sym (outbox-arrival i xs entry message refl refl refl) in
     record {
       run = run-arrived config xs i message kept.run client due;
       replayed = replayed-arrival config agents xs entry message kept.replayed refl;
@@ -115,5 +118,6 @@ parts-arrived config agents outboxes xs i message outbox taken kept client due o
 pub arrival-entry : (number k : ℕ) (message : List ℕ) (outcome : Outcome) (n i : ℕ) → number ≡ n → k ≡ i → outcome ≡ nothing
     → record { number = number; client = k; input = inputs.Arrive message; outcome = outcome } ≡ arrival_at i n message
 arrival-entry number k message outcome n i number_is client_is outcome_is =
-    let entry : ℕ → ℕ → Outcome → Entry = λ (q : ℕ) (j : ℕ) (o : Outcome). record { number = q; client = j; input = inputs.Arrive message; outcome = o } in
+    let entry : ℕ → ℕ → Outcome → Entry = λ (q : ℕ) (j : ℕ) (o : Outcome). record
+    { number = q; client = j; input = inputs.Arrive message; outcome = o } in
     ap (λ (q : ℕ). entry q k outcome) number_is ∙ ap (λ (j : ℕ). entry n j outcome) client_is ∙ ap (entry n i) outcome_is

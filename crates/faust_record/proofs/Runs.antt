@@ -34,8 +34,11 @@ clients-front n (x ∷ xs) ys all = (all.0, clients-front n xs ys all.1)
 
 pub fed-append : (before xs : List Entry) (e : Entry) → AreFed before xs → IsFed (before ++ xs) e → AreFed before (xs ++ e ∷ [])
 fed-append before [] e front here = (subst (λ (l : List Entry). IsFed l e) (append-nil before) here, tt)
-fed-append before (x ∷ xs) e front here =
-    (front.0, fed-append (before ++ x ∷ []) xs e front.1 (subst (λ (l : List Entry). IsFed l e) (sym (append_assoc before (x ∷ []) xs)) here))
+fed-append before (x ∷ xs) e front here = (
+  front.0,
+  fed-append (before ++ x ∷ []) xs e front.1
+      (subst (λ (l : List Entry). IsFed l e) (sym (append_assoc before (x ∷ []) xs)) here),
+)
 
 fed-front : (before xs ys : List Entry) → AreFed before (xs ++ ys) → AreFed before xs
 fed-front before [] ys all = tt
@@ -56,7 +59,8 @@ obeyed-append config xs e run step i within =
       | inr other ↦ subst obeys (sym (entries_of-other i xs e other)) (run.obeyed i within)
     ]
 
-pub run-append : (config : Config) (xs : List Entry) (e : Entry) → IsRun config xs → e.number ≡ length xs → IsClient config.clients e.client
+pub run-append : (config : Config) (xs : List Entry) (e : Entry) → IsRun config xs → e.number ≡ length xs
+    → IsClient config.clients e.client
     → IsStep config e.client (replay config e.client (entries_of e.client xs)) e → IsFed xs e → IsRun config (xs ++ e ∷ [])
 run-append config xs e run number client step fed = record {
   config_in_range = run.config_in_range;

@@ -107,7 +107,8 @@ sifted-inserted keep e (x ∷ xs) ordered = elim (cases_lt x.number e.number) [
       ∙ kept-first (keep e) e (sifted keep (x ∷ xs)) (from-sifted keep e.number (x ∷ xs) above)
 ]
 
-by_number-choice : (b : Bool) (e : Entry) (xs : List Entry) → cond b (inserted e (by_number xs)) (by_number xs) ≡ by_number (cond b (e ∷ xs) xs)
+by_number-choice : (b : Bool) (e : Entry) (xs : List Entry) → cond b (inserted e (by_number xs)) (by_number xs) ≡ by_number
+    (cond b (e ∷ xs) xs)
 by_number-choice true e xs = refl
 by_number-choice false e xs = refl
 

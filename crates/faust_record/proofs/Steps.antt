@@ -22,7 +22,8 @@ use Rattle.faust_record.proofs.Own.{member_after-append}
 use Rattle.faust_record.proofs.Journals.{journal-acted}
 
 -- an entry in the place that was made for it
-pub put-entry : (before pushed now : List Entry) (blank : Entry) (place number me : ℕ) (old new : Member) (input : Input) (outcome : Outcome)
+pub put-entry : (before pushed now : List Entry) (blank : Entry) (place number me : ℕ) (old new : Member) (input : Input)
+    (outcome : Outcome)
     → pushed ≡ before ++ blank ∷ [] → place ≡ length before
     → now ≡ slice_set pushed place (record { number = number; client = me; input = input; outcome = outcome })
     → me ≡ new.me → new ≡ member_at old input → outcome ≡ outcome_at old.config old.me old.client input

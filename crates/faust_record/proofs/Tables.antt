@@ -74,7 +74,8 @@ placed-numbered q front blanks [] numbered sized room = ap (λ (l : List Entry).
 placed-numbered q front [] (x ∷ xs) numbered sized room = absurd (omega (arith, room))
 placed-numbered q front (b ∷ blanks) (x ∷ xs) numbered sized room =
     let rest : placed ((front ++ b ∷ []) ++ blanks) xs ≡ (front ++ b ∷ []) ++ xs =
-    placed-numbered (suc q) (front ++ b ∷ []) blanks xs numbered.1 (length-append front (b ∷ []) ∙ omega (arith, sized)) (omega (arith, room)) in
+    placed-numbered (suc q) (front ++ b ∷ []) blanks xs numbered.1 (length-append front (b ∷ [])
+    ∙ omega (arith, sized)) (omega (arith, room)) in
     let whole : placed (front ++ b ∷ blanks) xs ≡ front ++ b ∷ xs =
     ap (λ (l : List Entry). placed l xs) (sym (append_assoc front (b ∷ []) blanks)) ∙ rest ∙ append_assoc front (b ∷ []) xs in
     ap (λ (l : List Entry). slice_set l x.number x) whole

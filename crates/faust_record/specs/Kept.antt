@@ -65,7 +65,8 @@ pub record IsActedIn (before now : List Entry) (old new : Member) (outbox filled
   pub moved : new ≡ member_at old input
   pub filled_is : filled ≡ sent_after outbox (length before) (outcome_at old.config old.me old.client input).to_server
 
-pub record IsRefusedIn (before now : List Entry) (old new : Member) (outbox same : Outbox) (input : Input) (refusal : Refusal) : Type 0 where
+pub record IsRefusedIn (before now : List Entry) (old new : Member) (outbox same : Outbox) (input : Input) (refusal : Refusal) : Type
+    0 where
   pub refused : Refused refusal before now old new input
   pub same_outbox : same ≡ outbox
 

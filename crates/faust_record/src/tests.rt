@@ -1,14 +1,13 @@
-ghost use Rattle.std.specs.Prelude.{◌≡◌, [], ◌∷◌, ◌++◌, IsTrue, IfOk};
+ghost use Rattle.std.specs.Prelude.{◌≡◌, IsTrue, IfOk};
 ghost use Rattle.faust_types.specs.Ranges.{IsConfig, IsWire};
 ghost use Rattle.faust_record.specs.Journals.{IsNumberBehind};
-ghost use Rattle.faust_record.specs.Merging.{numbers_of};
 
-use crate::{Input, Journal, Journals, MergeError, PushError, PushInput, RunRecord, StepError};
-use faust_types::{
-    Arrival, Arrivals, Bytes, Config, MAX_MESSAGE_LEN, MAX_TIMESTAMP, Notice, OutOfMemory,
-};
+use crate::{Input, Journal, PushError, PushInput, RunRecord, StepError};
+use faust_types::{Bytes, Config, MAX_MESSAGE_LEN, MAX_TIMESTAMP, Notice, OutOfMemory};
 use std::alloc::Global;
 use std::test::Fail;
+
+mod merging;
 
 // Python's `hmac` and `hashlib` gave the messages of client 1, from the layouts of bodies and messages.
 const SUBMIT_OF_A: &str =
@@ -122,6 +121,22 @@ fn step(alloc: Global, journal: &mut Journal, number: u64, event: Event) -> Resu
     }
 }
 
+/// Whether each of the steps in turn is answered so, and only those that are taken make the journal longer.
+fn are_answered(
+    alloc: Global,
+    journal: &mut Journal,
+    steps: &[(u64, Event, Result<(), StepError>)],
+) -> bool {
+    for (number, event, want) in steps {
+        let before = journal.len();
+        let got = step(alloc, journal, *number, *event);
+        if got != *want || (journal.len() > before) != want.is_ok() {
+            return false;
+        }
+    }
+    true
+}
+
 #[test]
 fn a_journal_refuses_in_order(rt: HostRuntime) -> Result<(), Fail> {
     let alloc = rt.alloc();
@@ -142,134 +157,16 @@ fn a_journal_refuses_in_order(rt: HostRuntime) -> Result<(), Fail> {
         (8, Event::Read(2), Err(StepError::Failed(BROKEN))),
         (8, Event::Tick(7), Ok(())),
     ];
-    let mut taken = 0;
-    for (number, event, want) in steps {
-        let before = journal.len();
-        let got = step(alloc, &mut journal, number, event);
-        assert_eq!(rt; got, want, "at {taken}");
-        let after = if want.is_ok() { before + 1 } else { before };
-        assert_eq!(rt; journal.len(), after, "at {taken}");
-        taken += 1;
-    }
+    assert!(rt; are_answered(alloc, &mut journal, &steps));
     assert_eq!(rt; journal.client(), 1);
+    assert_eq!(rt; journal.len(), 4);
     assert_eq!(rt; journal.agent().notice(), Some(BROKEN));
-    let last = journal.last().ok_or("no entry")?;
-    assert_eq!(rt; last.number, 8);
-    let third = journal.entry(2).ok_or("no entry")?;
-    assert_eq!(rt; third.outcome.notice, Some(BROKEN));
+    assert_eq!(rt; journal.last().ok_or("no entry")?.number, 8);
+    assert_eq!(rt;
+        journal.entry(2).ok_or("no entry")?.outcome.notice,
+        Some(BROKEN)
+    );
     assert!(rt; journal.entry(4).is_none());
-    Ok(())
-}
-
-// Under wire 1 the SUBMIT of the write of `a` says nothing of a COMMIT.
-const SUBMIT_OF_A_1: &str =
-    "010101010000000000000001352fbaf1d0763b484ffdd243407dfffdeef23b8c194f9a8c2d0451d034a09d384abcef5c3ca28a617ba6b8ae0bb0b00914422da068d31e676b0e3b7edd24b06e000161";
-
-const CHANGED: &str =
-    "010101010000000000000001352fbaf1d0763b484ffdd243407dfffdeef23b8c194f9a8c2d0451d034a09d384abcef5c3ca28a617ba6b8ae0bb0b00914422da068d31e676b0e3b7edd24b06e000160";
-
-/// The journal of client 1 with one write, as entry 0.
-fn one_write(alloc: Global, config: &Config) -> Result<Journal, MergeError>
-    requires config { IsConfig config.now }
-    requires two { config.now.clients ≡ 2 }
-    ensures config { IfOk result (λ journal. journal.config ≡ config.now) }
-    ensures numbers { IfOk result (λ journal. numbers_of journal.entries ≡ 0 ∷ []) }
-{
-    let mut journal = Journal::new(alloc, config, 1)?;
-    let value = Bytes::from_slice(alloc, b"a")?;
-    if journal.step(0, Input::Write(value)).is_err() {
-        return Err(MergeError::OutOfMemory);
-    }
-    Ok(journal)
-}
-
-/// What merging answers to two journals, which have entry 0, and an arrival of these bytes from this client, as
-/// entry 1.
-fn merged(
-    alloc: Global,
-    config: Config,
-    first: Journal,
-    second: Journal,
-    from: u8,
-    text: &str,
-) -> Result<RunRecord, MergeError>
-    requires config { IsConfig config }
-    requires two { config.clients ≡ 2 }
-    requires first { first.config ≡ config }
-    requires second { second.config ≡ config }
-    requires numbers { numbers_of (first.entries ++ second.entries) ≡ 0 ∷ [] }
-{
-    let mut journals = Journals::new(alloc);
-    journals.push(first)?;
-    journals.push(second)?;
-    let mut arrivals = Arrivals::new(alloc);
-    arrivals.push(Arrival {
-        number: 1,
-        client: from,
-        message: bytes_of(alloc, text)?,
-    })?;
-    RunRecord::merge(alloc, config, journals, arrivals)
-}
-
-/// The same for one write of client 1; `merged_swapped` has the journal of client 2 first.
-fn merged_in_order(alloc: Global, from: u8, text: &str) -> Result<RunRecord, MergeError> {
-    let config = config(alloc, 1)?;
-    let first = one_write(alloc, &config)?;
-    let second = Journal::new(alloc, &config, 2)?;
-    merged(alloc, config, first, second, from, text)
-}
-
-fn merged_swapped(alloc: Global, from: u8, text: &str) -> Result<RunRecord, MergeError> {
-    let config = config(alloc, 1)?;
-    let first = one_write(alloc, &config)?;
-    let second = Journal::new(alloc, &config, 2)?;
-    merged(alloc, config, second, first, from, text)
-}
-
-#[test]
-fn what_merges_and_what_does_not(rt: HostRuntime) -> Result<(), Fail> {
-    let alloc = rt.alloc();
-    let record = merged_in_order(alloc, 1, SUBMIT_OF_A_1)?;
-    assert_eq!(rt; record.len(), 2);
-    let submit = bytes_of(alloc, SUBMIT_OF_A_1)?;
-    assert_eq!(rt; message_of(&record, 1), submit.as_slice());
-    assert!(rt; !record.agent(1).is_idle());
-    match merged_in_order(alloc, 1, CHANGED) {
-        Err(
-            MergeError::Frame {
-                client,
-                index,
-                sent,
-                got,
-            },
-        ) => {
-            assert_eq!(rt; (client, index), (1, 1));
-            let sent = sent.ok_or("nothing was sent")?;
-            assert_eq!(rt; sent.as_slice(), submit.as_slice());
-            assert_eq!(rt; got.as_slice(), bytes_of(alloc, CHANGED)?.as_slice());
-        }
-        _ => assert!(rt; false, "no frame"),
-    }
-    for from in [0, 2, 3] {
-        match merged_in_order(alloc, from, SUBMIT_OF_A_1) {
-            Err(
-                MergeError::Frame {
-                    client,
-                    index,
-                    sent,
-                    got: _,
-                },
-            ) => {
-                assert_eq!(rt; (client, index), (from, 1));
-                assert!(rt; sent.is_none());
-            }
-            _ => assert!(rt; false, "no frame"),
-        }
-    }
-    match merged_swapped(alloc, 1, CHANGED) {
-        Err(MergeError::Client { place, client }) => assert_eq!(rt; (place, client), (1, 2)),
-        _ => assert!(rt; false, "no stranger"),
-    }
     Ok(())
 }
 
@@ -321,6 +218,29 @@ fn sent_at(record: &RunRecord, q: u64) -> &[u8] {
     }
 }
 
+/// Whether each of the pushes in turn is answered so.
+fn are_pushed(
+    alloc: Global,
+    record: &mut RunRecord,
+    pushes: &[(Event, Result<(), PushError>)],
+) -> bool {
+    for (event, want) in pushes {
+        let got = push(alloc, record, *event);
+        if got != *want {
+            return false;
+        }
+    }
+    true
+}
+
+fn has_arrived(alloc: Global, record: &RunRecord, q: u64, text: &str) -> Result<bool, OutOfMemory> {
+    Ok(message_of(record, q) == bytes_of(alloc, text)?.as_slice())
+}
+
+fn was_sent(alloc: Global, record: &RunRecord, q: u64, text: &str) -> Result<bool, OutOfMemory> {
+    Ok(sent_at(record, q) == bytes_of(alloc, text)?.as_slice())
+}
+
 #[test]
 fn a_commit_rides_and_is_released_by_a_tick(rt: HostRuntime) -> Result<(), Fail> {
     let alloc = rt.alloc();
@@ -342,28 +262,15 @@ fn a_commit_rides_and_is_released_by_a_tick(rt: HostRuntime) -> Result<(), Fail>
         (Event::Arrive, Ok(())),
         (Event::Arrive, Err(PushError::Nothing)),
     ];
-    let mut at = 0;
-    for (event, want) in pushes {
-        let got = push(alloc, &mut record, event);
-        assert_eq!(rt; got, want, "at {at}");
-        at += 1;
-    }
+    assert!(rt; are_pushed(alloc, &mut record, &pushes));
     assert_eq!(rt; record.len(), 8);
-    let messages = [(1, SUBMIT_OF_A), (4, SUBMIT_OF_B), (7, COMMIT_OF_B)];
-    for (q, text) in messages {
-        let bytes = bytes_of(alloc, text)?;
-        assert_eq!(rt; message_of(&record, q), bytes.as_slice(), "at {q}");
-    }
-    assert_eq!(rt;
-        sent_at(&record, 6),
-        bytes_of(alloc, COMMIT_OF_B)?.as_slice()
-    );
+    assert!(rt; has_arrived(alloc, &record, 1, SUBMIT_OF_A)?);
+    assert!(rt; has_arrived(alloc, &record, 4, SUBMIT_OF_B)?);
+    assert!(rt; has_arrived(alloc, &record, 7, COMMIT_OF_B)?);
+    assert!(rt; was_sent(alloc, &record, 6, COMMIT_OF_B)?);
     let tick = record.entry(6).ok_or("no entry")?;
-    assert_eq!(rt; tick.outcome.probed.as_slice(), [2].as_slice());
     assert_eq!(rt; tick.number, 6);
-    let reply = record.entry(5).ok_or("no entry")?;
-    let answer = reply.outcome.answer.as_ref().ok_or("no answer")?;
-    assert_eq!(rt; answer.op.name.t, 2);
+    assert!(rt; tick.outcome.probed.as_slice() == [2].as_slice());
     assert!(rt; record.entry(8).is_none());
     Ok(())
 }

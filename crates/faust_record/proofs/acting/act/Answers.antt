@@ -9,7 +9,8 @@ pub returns-in-Ok : goal.returns-in-Ok
 returns-in-Ok c =
     let old = c.args.agent.now in
     let happened = c.in-Ok.ensures.happens in
-    let taken : refusal_at old.config old.me old.client c.args.input ≡ None = sym c.refusal.ensures ∙ grind (arith, c.in_default.not-Some) in
+    let taken : refusal_at old.config old.me old.client c.args.input ≡ None = sym c.refusal.ensures
+    ∙ grind (arith, c.in_default.not-Some) in
     record {
       taken = taken;
       may_come = may-come old.config old.me old.client c.args.input taken c.requires c.in-Ok.ensures.bytes;

@@ -17,7 +17,8 @@ returns-then-client-lt1 c =
     let q = c.args.q in
     let e = c.at.result.now in
     let at : IsAt all q e = at-place all q e blank_entry c.requires.place (c.at.ensures blank_entry) in
-    let arrival : arriving e.input ≡ Some c.args.message.now = ap (λ (x : Entry). arriving x.input) (c.at.ensures blank_entry) ∙ c.requires.arrival in
+    let arrival : arriving e.input ≡ Some c.args.message.now = ap (λ (x : Entry). arriving x.input) (c.at.ensures blank_entry)
+    ∙ c.requires.arrival in
     let stranger : IsClient n e.client → ⊥ = λ client. elim c.then-client-lt1.branch [
       | then-client-lt1-via-then-client-lt1 w ↦ omega (arith, client.from_one)
       | then-client-lt1-via-else-client-lt1+then-client-n w ↦ omega (arith, client.to_n)
@@ -73,5 +74,6 @@ returns c =
     let delivers : Delivers c.deliver.result e.client (message_at all (outbox_in items e.client)) (outbox_in items e.client) now message =
     subst (λ (o : Outbox). Delivers c.deliver.result e.client (message_at all o) o now message) outbox c.deliver.ensures in
     let next : FeedsOne c.deliver.result n (slice_set items (e.client - 1) now) all (q + 1) =
-    delivered-next c.deliver.result n items all q e message now at c.requires.fed arrival (placed.arrival_alone message arrival) client delivers in
+    delivered-next c.deliver.result n items all q e message now at c.requires.fed arrival (placed.arrival_alone message arrival)
+    client delivers in
     subst (λ (k : ℕ). FeedsOne c.deliver.result n (slice_set items (k - 1) now) all (q + 1)) (sym c.from.ensures) next

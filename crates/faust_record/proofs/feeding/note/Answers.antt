@@ -27,7 +27,8 @@ returns c =
     let q = c.args.q in
     let e = c.at-entry.result.now in
     let items = c.args.outboxes.now.items in
-    let client : IsClient n e.client = act-client n all q e blank_entry c.requires.placed c.requires.place (c.at-entry.ensures blank_entry) c.requires.act in
+    let client : IsClient n e.client = act-client n all q e blank_entry c.requires.placed c.requires.place
+    (c.at-entry.ensures blank_entry) c.requires.act in
     let act : arriving e.input ≡ None = ap (λ (x : Entry). arriving x.input) (c.at-entry.ensures blank_entry) ∙ c.requires.act in
     let at : IsAt all q e = at-place all q e blank_entry c.requires.place (c.at-entry.ensures blank_entry) in
     let outbox : c.index_mut-outbox.result.now ≡ outbox_in items e.client =
@@ -36,4 +37,5 @@ returns c =
     let noted : c.note.new.self ≡ sent_after (outbox_in items e.client) q e.outcome.to_server =
     c.in_ok-note.ensures ∙ ap (λ (o : Outbox). sent_after o q e.outcome.to_server) outbox in
     let next = noted-next n items all q e c.note.new.self at c.requires.fed act client noted in
-    subst (λ (k : ℕ). AreFedTo n (slice_set items (k - 1) c.note.new.self) (take (q + 1) all) (drop (q + 1) all) all) (sym c.from.ensures) next
+    subst (λ (k : ℕ). AreFedTo n (slice_set items (k - 1) c.note.new.self) (take (q + 1) all) (drop (q + 1) all) all)
+    (sym c.from.ensures) next

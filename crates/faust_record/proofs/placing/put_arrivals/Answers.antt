@@ -11,7 +11,8 @@ pub set-requires : goal.set-requires
 set-requires c =
     let last : map entry_of c.loop-arrival.arrivals ≡ map entry_of c.pop.new.self ++ entry_of c.in-Some.arrival ∷ [] =
     ap (map entry_of) c.in-Some.ensures.taken ∙ map_push entry_of c.pop.new.self c.in-Some.arrival in
-    last-below (length c.loop-arrival.table) (map entry_of c.loop-arrival.arrivals) (map entry_of c.pop.new.self) (entry_of c.in-Some.arrival)
+    last-below (length c.loop-arrival.table) (map entry_of c.loop-arrival.arrivals) (map entry_of c.pop.new.self)
+    (entry_of c.in-Some.arrival)
     last c.loop-arrival.invariant.1
 
 pub loop-arrival-preserved : goal.loop-arrival-preserved
@@ -19,8 +20,10 @@ loop-arrival-preserved c =
     let arrival = c.in-Some.arrival in
     let last : map entry_of c.loop-arrival.arrivals ≡ map entry_of c.pop.new.self ++ entry_of arrival ∷ [] =
     ap (map entry_of) c.in-Some.ensures.taken ∙ map_push entry_of c.pop.new.self arrival in
-    let entry = arrival-entry arrival.number arrival.client arrival.message c.nothing.result arrival.number arrival.client refl refl c.nothing.ensures in
+    let entry = arrival-entry arrival.number arrival.client arrival.message c.nothing.result arrival.number arrival.client refl refl
+    c.nothing.ensures in
     let set : c.set.new.self ≡ slice_set c.loop-arrival.table arrival.number (entry_of arrival) =
     c.set.ensures ∙ ap (slice_set c.loop-arrival.table arrival.number) entry in
     put-last c.loop-arrival.table c.set.new.self (map entry_of c.loop-arrival.arrivals) (map entry_of c.pop.new.self)
-    (placed c.args.table.now (map entry_of c.args.arrivals)) (entry_of arrival) last set c.loop-arrival.invariant.0 c.loop-arrival.invariant.1
+    (placed c.args.table.now (map entry_of c.args.arrivals)) (entry_of arrival) last set c.loop-arrival.invariant.0
+    c.loop-arrival.invariant.1

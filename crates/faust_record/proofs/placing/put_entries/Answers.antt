@@ -5,7 +5,8 @@ use Rattle.faust_record.proofs.placing.put_entries.Goals as goal
 
 pub set-requires : goal.set-requires
 set-requires c =
-    last-below (length c.loop-entry.table) c.loop-entry.entries c.pop.new.self c.in-Some.entry c.in-Some.ensures.taken c.loop-entry.invariant.1
+    last-below (length c.loop-entry.table) c.loop-entry.entries c.pop.new.self c.in-Some.entry c.in-Some.ensures.taken
+    c.loop-entry.invariant.1
 
 pub loop-entry-preserved : goal.loop-entry-preserved
 loop-entry-preserved c =

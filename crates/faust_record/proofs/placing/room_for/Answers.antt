@@ -15,5 +15,6 @@ loop-before-preserved c =
     take_more logs before log (omega (arith, c.loop-before-test.true, c.len-before-end.ensures))
     ∙ ap (λ (l : Log). take before logs ++ l ∷ []) (sym (c.at.ensures log)) in
     let longer : length (logged_in (take (before + 1) logs)) ≡ length (logged_in (take before logs)) + length log.entries =
-    ap (λ (l : List Log). length (logged_in l)) more ∙ ap (length {A = Entry}) (logged_in-last (take before logs) log) ∙ length-append (logged_in (take before logs)) log.entries in
+    ap (λ (l : List Log). length (logged_in l)) more ∙ ap (length {A = Entry}) (logged_in-last (take before logs) log)
+    ∙ length-append (logged_in (take before logs)) log.entries in
     omega (arith, longer, c.in_ok-add_blanks.ensures, c.len.ensures, c.loop-before.invariant)

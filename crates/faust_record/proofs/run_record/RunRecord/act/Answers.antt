@@ -24,9 +24,12 @@ returns-in_err-act c =
     let agent_is : agent ≡ member_after r.config i (entries_of i r.entries) =
     agent-is r.config r.agents.items r.entries i agent c.self.invariant.replayed client c.index_mut-agent.ensures.value in
     let refusal = c.in_err-act.field-0.0 in
-    let refused : Refused refusal r.entries c.act.new.entries (member_after r.config i (entries_of i r.entries)) c.act.new.agent c.args.input =
-    subst (λ (m : Member). Refused refusal r.entries c.act.new.entries m c.act.new.agent c.args.input) agent_is c.in_err-act.ensures.refused in
-    let stays = refused-stays refusal r.entries c.act.new.entries (member_after r.config i (entries_of i r.entries)) c.act.new.agent c.args.input refused in
+    let refused : Refused refusal r.entries c.act.new.entries (member_after r.config i (entries_of i r.entries)) c.act.new.agent
+    c.args.input =
+    subst (λ (m : Member). Refused refusal r.entries c.act.new.entries m c.act.new.agent c.args.input) agent_is
+    c.in_err-act.ensures.refused in
+    let stays = refused-stays refusal r.entries c.act.new.entries (member_after r.config i (entries_of i r.entries)) c.act.new.agent
+    c.args.input refused in
     let now : Run = record { config = r.config; entries = c.act.new.entries } in
     let same : now ≡ run_of r = ap (λ (l : List Entry). record { config = r.config; entries = l }) stays.0 in
     let p = err_from_is_err_and c.from_residual.result c.from_residual.ensures.1 in
@@ -48,10 +51,13 @@ invariant_of-self-2 c =
     agent-is r.config r.agents.items r.entries i agent c.self.invariant.replayed client c.index_mut-agent.ensures.value in
     let outbox_is : outbox ≡ outbox_of i r.entries =
     outbox-is r.config.clients r.outboxes.items r.entries i outbox c.self.invariant.filled client c.index_mut-outbox.ensures.value in
-    let by_agent = subst (λ (m : Member). IsActedIn r.entries c.act.new.entries m c.act.new.agent outbox c.act.new.self c.args.input) agent_is c.in_ok-act.ensures in
-    let act = subst (λ (o : Outbox). IsActedIn r.entries c.act.new.entries (member_after r.config i (entries_of i r.entries)) c.act.new.agent o c.act.new.self c.args.input) outbox_is by_agent in
+    let by_agent = subst (λ (m : Member). IsActedIn r.entries c.act.new.entries m c.act.new.agent outbox c.act.new.self c.args.input)
+    agent_is c.in_ok-act.ensures in
+    let act = subst (λ (o : Outbox). IsActedIn r.entries c.act.new.entries (member_after r.config i (entries_of i r.entries))
+    c.act.new.agent o c.act.new.self c.args.input) outbox_is by_agent in
     let before : AreParts r.config r.agents.items r.outboxes.items r.entries = c.self.invariant in
-    let parts = parts-acted r.config r.agents.items r.outboxes.items r.entries c.act.new.entries i c.args.input c.act.new.agent c.act.new.self before client c.requires.own act in
+    let parts = parts-acted r.config r.agents.items r.outboxes.items r.entries c.act.new.entries i c.args.input c.act.new.agent
+    c.act.new.self before client c.requires.own act in
     parts
 
 pub returns : goal.returns
@@ -64,7 +70,8 @@ returns c =
     let outbox = c.index_mut-outbox.result.now in
     let agent_is : agent ≡ member_after r.config i (entries_of i r.entries) =
     agent-is r.config r.agents.items r.entries i agent c.self.invariant.replayed client c.index_mut-agent.ensures.value in
-    let act = subst (λ (m : Member). IsActedIn r.entries c.act.new.entries m c.act.new.agent outbox c.act.new.self c.args.input) agent_is c.in_ok-act.ensures in
+    let act = subst (λ (m : Member). IsActedIn r.entries c.act.new.entries m c.act.new.agent outbox c.act.new.self c.args.input)
+    agent_is c.in_ok-act.ensures in
     let now : Run = record { config = r.config; entries = c.act.new.entries } in
     let at_client : acted (run_of r) i c.args.input ≡ Ok now =
     push-taken (run_of r) i c.args.input c.act.new.entries c.act.new.agent outbox c.act.new.self act in

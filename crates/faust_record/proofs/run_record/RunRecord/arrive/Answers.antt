@@ -49,10 +49,13 @@ invariant_of-self-2 c =
     sym (next-due i r.entries) ∙ ap (message_at r.entries) (sym outbox_is) ∙ sym c.in-Some.ensures.message
     ∙ ap (λ (m : List ℕ). Some m) (sym c.in_ok-message.ensures) in
     let same : c.index_mut.result.now ≡ outbox_of i r.entries =
-    outbox-is r.config.clients r.outboxes.items r.entries i c.index_mut.result.now c.self.invariant.filled client c.index_mut.ensures.value in
+    outbox-is r.config.clients r.outboxes.items r.entries i c.index_mut.result.now c.self.invariant.filled client
+    c.index_mut.ensures.value in
     let before : AreParts r.config r.agents.items r.outboxes.items r.entries = c.self.invariant in
-    let parts = parts-arrived r.config r.agents.items r.outboxes.items r.entries i message c.index_mut.result.now c.take_next.new.self before client due same c.take_next.ensures in
-    let entry = arrival-entry c.len.result c.args.client message c.nothing.result (length r.entries) i c.len.ensures (sym c.from-k.ensures) c.nothing.ensures in
+    let parts = parts-arrived r.config r.agents.items r.outboxes.items r.entries i message c.index_mut.result.now
+    c.take_next.new.self before client due same c.take_next.ensures in
+    let entry = arrival-entry c.len.result c.args.client message c.nothing.result (length r.entries) i c.len.ensures
+    (sym c.from-k.ensures) c.nothing.ensures in
     let now : c.push.new.self ≡ r.entries ++ arrival_at i (length r.entries) message ∷ [] =
     c.in_ok-push.ensures.ok ∙ ap (λ (e : Entry). r.entries ++ e ∷ []) entry in
     record {
@@ -73,7 +76,8 @@ returns c =
     let due : next_message i r.entries ≡ Some message =
     sym (next-due i r.entries) ∙ ap (message_at r.entries) (sym outbox_is) ∙ sym c.in-Some.ensures.message
     ∙ ap (λ (m : List ℕ). Some m) (sym c.in_ok-message.ensures) in
-    let entry = arrival-entry c.len.result c.args.client message c.nothing.result (length r.entries) i c.len.ensures (sym c.from-k.ensures) c.nothing.ensures in
+    let entry = arrival-entry c.len.result c.args.client message c.nothing.result (length r.entries) i c.len.ensures
+    (sym c.from-k.ensures) c.nothing.ensures in
     let now : r.entries ++ arrival_at i (length r.entries) message ∷ [] ≡ c.push.new.self =
     sym (c.in_ok-push.ensures.ok ∙ ap (λ (e : Entry). r.entries ++ e ∷ []) entry) in
     let longer : List Entry → Run = λ (l : List Entry). record { config = r.config; entries = l } in

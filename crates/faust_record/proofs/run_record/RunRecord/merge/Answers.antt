@@ -46,7 +46,8 @@ from_parts-requires c =
     let fed = subst (AreAllFed c.args.config.clients outboxes) table c.in_ok-outboxes.ensures in
     subst (AreParts c.args.config c.in_ok-agents.agents.items outboxes) (sym table)
     (merged-parts c.args.config c.args.journals c.args.arrivals c.in_ok-agents.agents.items outboxes c.requires.config c.requires.count
-    c.requires.one_config c.requires.numbers (sym c.in_default.ensures.stranger) c.in_default.ensures.journals c.in_ok-agents.ensures.agents fed)
+    c.requires.one_config c.requires.numbers (sym c.in_default.ensures.stranger) c.in_default.ensures.journals
+    c.in_ok-agents.ensures.agents fed)
 
 pub returns : goal.returns
 returns c =
