@@ -6,3 +6,5 @@ pub mod Slots
 pub mod Rounds
 -- what a deed tells, and that a client in range can do it
 pub mod Reasons
+-- what a client sends is in range
+pub mod Sends

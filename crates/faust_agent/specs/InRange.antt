@@ -2,12 +2,13 @@
 use Rattle.std.specs.Prelude.{◌≡◌, ◌≢◌, ℕ, true, length, List, Some, IsNone, IfSome}
 use Rattle.faust_types.specs.Clients.{IsClient, IsClientCount}
 use Rattle.faust_types.specs.Versions.{Vector}
-use Rattle.faust_types.specs.Ranges.{IsAnnouncedFor, IsCheck, IsCommitFor, IsConfig, IsValueOf}
+use Rattle.faust_types.specs.Ranges.{IsAnnouncedFor, IsCheck, IsCommitFor, IsConfig, IsValueOf, IsSubmitFor}
 use Rattle.faust_types.specs.declared.config.Config.{Config}
 use Rattle.faust_types.specs.declared.operation.Notice.{Notice}
 use Rattle.faust_types.specs.declared.operation.Operation.{Operation}
 use Rattle.faust_types.specs.declared.message.Known.{Known}
 use Rattle.faust_ustor.specs.InRange.{IsPendingOf, IsJudgedFor}
+use Rattle.faust_agent.specs.Deeds.{Sent, commits, submits}
 use Rattle.faust_agent.specs.State.{Member, is_idle, slot_in, version_at}
 use Rattle.faust_agent.specs.declared.client.Client.{Client}
 use Rattle.faust_agent.specs.declared.deed.Order.{Order}
@@ -75,3 +76,8 @@ IsDeedFor config me st (deeds.Breaks notice) = IsCheck notice.check
 IsDeedFor config me st (deeds.Answers j) = IsOther config.clients me j
 IsDeedFor config me st (deeds.Hears j known) = IsHeardFor config me j known
 IsDeedFor config me st (deeds.Ticks m) = Unit {0}
+
+-- What goes to the server is in range. Under wire 1 no COMMIT rides.
+abbrev pub IsSentFor : Config → Sent → Type 0
+IsSentFor config (submits submit) = IsSubmitFor config.clients submit × (config.wire ≡ 1 → IsNone submit.commit)
+IsSentFor config (commits commit) = IsCommitFor config.clients commit

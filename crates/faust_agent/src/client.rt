@@ -1,5 +1,6 @@
 ghost use Rattle.std.specs.Prelude.{◌≡◌, ◌^◌, ◌<◌, length, replicate, IfOk};
 ghost use Rattle.faust_types.specs.Messages.{unmade};
+ghost use Rattle.faust_types.specs.Ranges.{IsAnnouncedFor};
 ghost use Rattle.faust_types.specs.Clients.{IsClientCount, IsClient};
 ghost use Rattle.faust_types.specs.Versions.{clients_of};
 ghost use Rattle.faust_agent.specs.State.{completed_count, cut_at, cut_up_to, first_client, greater_of, greatest, greatest_up_to, is_idle, is_less, other_register_after, register_after, slot_at};
@@ -96,7 +97,8 @@ impl Client {
     #[tactic(auto, unfolding(crate::specs::State::greatest))]
     pub fn greatest(&self, n: u8) -> &Known
         requires versions { HoldsEach n self.now.heard }
-        ensures { result.now ≡ greatest n self.now }
+        ensures value { result.now ≡ greatest n self.now }
+        ensures in_range { IsAnnouncedFor n result.now }
     {
         self.slot(self.greatest_at(n))
     }

@@ -26,3 +26,5 @@ pub mod Fed
 pub mod Merged
 -- runs are made by pushes
 pub mod Again
+-- tags of what is made
+pub mod Tagged

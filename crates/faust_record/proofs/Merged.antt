@@ -11,10 +11,11 @@ use Rattle.faust_agent.specs.State.{Member, first_client, first_member}
 use Rattle.faust_agent.specs.declared.client.Client.{Client}
 use Rattle.faust_record.specs.Entries.{IsStep, MayCome, Obeys, member_after, outcome_at, replay, replayed, state_at}
 use Rattle.faust_record.specs.Runs.{IsRun, Run, arriving, entries_of}
-use Rattle.faust_record.specs.Journals.{AreOwn, IsJournal, IsOwn, Log, first_log, member_of}
+use Rattle.faust_record.specs.Journals.{AreJournals, AreOwn, IsJournal, IsOwn, Log, first_log, member_of}
 use Rattle.faust_record.specs.Kept.{AreFilled, AreParts, AreReplayed, agent_in}
 use Rattle.faust_record.specs.Merging.{AreEachBelow, AreOfConfig, MergeRefuses, by_number, entry_of, first_frame, first_stranger, gathered, inserted, logged_in, merged, numbers_of, run_unless}
-use Rattle.faust_record.specs.Placing.{AreAllFed, AreBelow, AreJournals, ArePlacedFor, IsFirstFrame, IsPlacedFor, placed}
+use Rattle.faust_record.specs.Laws.{AreForAll, acts_of}
+use Rattle.faust_record.specs.Placing.{AreAllFed, AreBelow, ArePlacedFor, IsFirstFrame, IsPlacedFor, placed}
 use Rattle.faust_record.specs.declared.entry.Input.{Input}
 use Rattle.faust_record.specs.declared.entry.Input.TheVariants as inputs
 use Rattle.faust_record.specs.declared.entry.Entry.{Entry}
@@ -371,3 +372,30 @@ stranger-here place log rest other =
 pub journals-last : (logs : List Log) (log : Log) → AreJournals logs → IsJournal log → AreJournals (logs ++ log ∷ [])
 journals-last [] log front here = (here, tt)
 journals-last (x ∷ logs) log front here = (front.0, journals-last logs log front.1 here)
+
+-- a merged record has the entries of each journal
+acts_of-sifted : (i : ℕ) (xs : List Entry) → acts_of i xs ≡ sifted (is_act i) xs
+acts_of-sifted i [] = refl
+acts_of-sifted i (x ∷ xs) = ap (λ (l : List Entry). cond (is_act i x) (x ∷ l) l) (acts_of-sifted i xs)
+
+unless-parts : (stranger frame : Option MergeError) (made run : Run) → run_unless stranger frame made ≡ Ok run
+    → (stranger ≡ None) × (made ≡ run)
+unless-parts None None made run is = (refl, cc)
+unless-parts None (Some frame) made run is = absurd (cc)
+unless-parts (Some stranger) frame made run is = absurd (cc)
+
+merged-is : (config : Config) (logs : List Log) (arrivals : List Arrival) (run : Run) → merged config logs arrivals ≡ Ok run
+    → (first_stranger 1 logs ≡ None) × (run.entries ≡ by_number (gathered logs arrivals))
+unfolding merged
+merged-is config logs arrivals run is =
+    let entries : List Entry = by_number (gathered logs arrivals) in
+    let parts = unless-parts (first_stranger 1 logs) (first_frame [] entries) (record { config = config; entries = entries }) run is in
+    (parts.0, sym (ap (λ (r : Run). r.entries) parts.1))
+
+pub merged_has_journals : (config : Config) (logs : List Log) (arrivals : List Arrival) (run : Run) (i : ℕ) (d : Log)
+    → AreForAll config logs → merged config logs arrivals ≡ Ok run → IsClient config.clients i
+    → acts_of i run.entries ≡ (get_or logs (i - 1) d).entries
+merged_has_journals config logs arrivals run i d all is client =
+    let parts = merged-is config logs arrivals run is in
+    let log = log-sorted config logs arrivals i d parts.0 all.each all.one_config all.counted client in
+    ap (acts_of i) parts.1 ∙ acts_of-sifted i (by_number (gathered logs arrivals)) ∙ log.acts

@@ -51,3 +51,8 @@ pub record IsJournal (log : Log) : Type 0 where
   pub own : AreOwn log.me log.entries
   pub rising : AreRising 0 log.entries
   pub obeyed : Obeys log.config log.me (first_client log.config.clients log.me) log.entries
+
+-- Each of these is a journal.
+abbrev pub AreJournals : List Log → Type 0
+AreJournals [] = Unit {0}
+AreJournals (log ∷ rest) = IsJournal log × AreJournals rest

@@ -1,5 +1,12 @@
 -- Words in which the laws of this crate are stated.
-use Rattle.std.specs.Prelude.{◌≡◌, ℕ, List, [], ◌∷◌, ◌++◌}
+use Rattle.std.specs.Prelude.{◌≡◌, ◌==◌, ◌&&◌, ℕ, cond, List, [], ◌∷◌, ◌++◌, length, is_none, map}
+use Rattle.faust_types.specs.declared.config.Config.{Config}
+use Rattle.faust_types.specs.declared.message.Submit.{Submit}
+use Rattle.faust_types.specs.declared.message.Commit.{Commit}
+use Rattle.faust_types.specs.declared.message.PeerMessage.{PeerMessage}
+use Rattle.faust_record.specs.Runs.{arriving}
+use Rattle.faust_record.specs.Journals.{AreJournals, Log}
+use Rattle.faust_record.specs.Merging.{AreOfConfig}
 use Rattle.faust_record.specs.declared.entry.Input.{Input}
 use Rattle.faust_record.specs.declared.entry.Input.TheVariants as inputs
 use Rattle.faust_record.specs.declared.entry.Entry.{Entry}
@@ -26,3 +33,25 @@ pushed_as (inputs.Reply bytes) = given.Reply bytes
 pushed_as (inputs.Peer bytes) = given.Peer bytes
 pushed_as (inputs.Tick moment) = given.Tick moment
 pushed_as (inputs.Arrive message) = given.Arrive
+
+-- The tags of a SUBMIT, of a COMMIT, and of messages to other clients.
+abbrev pub tags_of_submit : Submit → List (List ℕ)
+tags_of_submit submit = submit.submit_tag ∷ submit.data_tag ∷ []
+
+abbrev pub tags_of_commit : Commit → List (List ℕ)
+tags_of_commit commit = commit.commit_tag ∷ commit.proof_tag ∷ []
+
+abbrev pub tags_of_posts : List PeerMessage → List (List ℕ)
+tags_of_posts messages = map (λ (message : PeerMessage). message.tag) messages
+
+-- The entries of client i that are no arrivals.
+abbrev pub acts_of : ℕ → List Entry → List Entry
+acts_of i [] = []
+acts_of i (entry ∷ rest) =
+    cond ((entry.client == i) && is_none (arriving entry.input)) (entry ∷ acts_of i rest) (acts_of i rest)
+
+-- As many journals as there are clients, of runs with this config.
+pub record AreForAll (config : Config) (logs : List Log) : Type 0 where
+  pub counted : length logs ≡ config.clients
+  pub each : AreJournals logs
+  pub one_config : AreOfConfig config logs

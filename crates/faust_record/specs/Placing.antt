@@ -4,7 +4,6 @@ use Rattle.std.specs.Global.{Vec}
 use Rattle.faust_types.specs.Clients.{IsClient}
 use Rattle.faust_types.specs.Outcomes.{nothing}
 use Rattle.faust_record.specs.Runs.{AreOfClients, arriving}
-use Rattle.faust_record.specs.Journals.{IsJournal, Log}
 use Rattle.faust_record.specs.Kept.{AreFilled}
 use Rattle.faust_record.specs.Merging.{first_frame, is_due}
 use Rattle.faust_record.specs.declared.entry.Entry.{Entry}
@@ -20,11 +19,6 @@ placed table (entry ∷ rest) = slice_set (placed table rest) entry.number entry
 abbrev pub AreBelow : ℕ → List Entry → Type 0
 AreBelow m [] = Unit {0}
 AreBelow m (entry ∷ rest) = (entry.number < m) × AreBelow m rest
-
--- Each of these is a journal.
-abbrev pub AreJournals : List Log → Type 0
-AreJournals [] = Unit {0}
-AreJournals (log ∷ rest) = IsJournal log × AreJournals rest
 
 -- Each entry but the arrivals is of one of n clients, and arrivals give nothing.
 pub record IsPlacedFor (n : ℕ) (entry : Entry) : Type 0 where

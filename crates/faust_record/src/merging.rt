@@ -1,7 +1,7 @@
 ghost use Rattle.std.specs.Prelude.{◌≡◌, length, IfNone};
 ghost use Rattle.faust_types.specs.Ranges.{IsConfig};
 ghost use Rattle.faust_record.specs.Merging.{AreEachBelow, AreOfConfig, Merges, first_stranger, gathered, merged, numbers_of};
-ghost use Rattle.faust_record.specs.Placing.{AreJournals};
+ghost use Rattle.faust_record.specs.Journals.{AreJournals};
 
 use crate::errors::MergeError;
 use crate::feeding::feed;

@@ -1,8 +1,7 @@
 use Rattle.std.proofs.Common.{◌≡◌, ◌+◌, ◌<◌, ◌∷◌, ◌++◌, [], ℕ, suc, List, length, get_or, drop, take, Option, Some, refl, sym, ap, ◌∙◌, subst, arith}
 use Rattle.std.proofs.lemmas.List.{drop_more, take_more}
-use Rattle.faust_record.specs.Journals.{IsJournal, Log}
+use Rattle.faust_record.specs.Journals.{AreJournals, IsJournal, Log}
 use Rattle.faust_record.specs.Merging.{first_stranger}
-use Rattle.faust_record.specs.Placing.{AreJournals}
 use Rattle.faust_record.specs.declared.errors.MergeError.{MergeError}
 use Rattle.faust_record.specs.declared.errors.MergeError.TheVariants as merges
 use Rattle.faust_record.proofs.Merged.{journals-last, stranger-here, stranger-next}

@@ -1,6 +1,6 @@
 use Rattle.std.proofs.Common.{◌≡◌, ◌+◌, drop, take}
 use Rattle.faust_record.specs.Merging.{first_stranger}
-use Rattle.faust_record.specs.Placing.{AreJournals}
+use Rattle.faust_record.specs.Journals.{AreJournals}
 use Rattle.faust_record.proofs.merging.first_stranger.Given as goal
 
 abbrev pub invariant-loop-before : goal.invariant-loop-before
