@@ -16,6 +16,7 @@ mod acting;
 mod entry;
 mod errors;
 mod feeding;
+mod findings;
 mod first;
 mod journal;
 pub mod laws;
@@ -28,5 +29,6 @@ mod tests;
 
 pub use entry::{Entry, Input};
 pub use errors::{MergeError, PushError, StepError};
+pub use findings::{Fact, Facts, Findings, Views};
 pub use journal::{Journal, Journals, MAX_ENTRIES};
 pub use run_record::{PushInput, RunRecord};
