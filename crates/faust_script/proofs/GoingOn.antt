@@ -78,7 +78,7 @@ unfolding text_at head_at tokens_of field_at
 delta_read f n key = refl
 
 dummy_read : (f : Formats) (n : ℕ) (key : List ℕ) (delta : ℕ)
-    → text_at (stages.Head (heads.Dummy f n key delta)) (codes "dummy 1") ≡ Ok (stages.Events (empty_script (config_of f n key delta 1)))
+    → text_at (stages.Head (heads.Dummy f n key delta)) (codes "dummy 1") ≡ Ok (stages.Events (empty_script f.text (config_of f n key delta 1)))
 unfolding text_at head_at tokens_of field_at
 dummy_read f n key delta = refl
 
@@ -96,7 +96,7 @@ from_events_on : (s : Script) (number : ℕ) → lines_from (stages.Events s) nu
 from_events_on s number = one_more (stages.Events s) (stages.Ended s) number end_text [] s (lit≤ tt) (end_read s) (ended_found s (number + 1))
 
 abbrev last_script : Formats → ℕ → List ℕ → ℕ → Script
-last_script f n key delta = empty_script (config_of f n key delta 1)
+last_script f n key delta = empty_script f.text (config_of f n key delta 1)
 
 from_dummy_on : (f : Formats) (n : ℕ) (key : List ℕ) (delta number : ℕ)
     → lines_from (stages.Head (heads.Dummy f n key delta)) number (ended_lines from_dummy) ≡ Ok (last_script f n key delta)

@@ -1,9 +1,10 @@
 -- What a script's text spells is in range.
-use Rattle.std.proofs.Common.{◌≡◌, ℕ, ◌^◌, ◌-◌, ◌<◌, ◌≤◌, List, [], ◌∷◌, lit≤, arith}
+use Rattle.std.proofs.Common.{◌≡◌, ℕ, ◌^◌, ◌-◌, ◌<◌, ◌≤◌, List, [], ◌∷◌, inl, inr, lit≤, arith}
 use Rattle.std.specs.List.{AllByRecursion}
 use Rattle.faust_types.specs.Clients.{IsClient}
 use Rattle.faust_types.specs.Ranges.{IsOperationNumber}
 use Rattle.faust_text.specs.Fields.{Field, AllGiven}
+use Rattle.faust_text.specs.Heads.{SpellsWire}
 use Rattle.faust_text.specs.Spelled.{AreInRange, IsNumberIn, SpellsField}
 use Rattle.faust_text.specs.Tokens.{tokens_of}
 use Rattle.faust_text.proofs.FieldLaws.{fields_in_range}
@@ -16,7 +17,7 @@ use Rattle.faust_script.specs.declared.script.Script.{Script}
 use Rattle.faust_script.specs.declared.word.EventWord.TheVariants as words
 use Rattle.faust_script.specs.declared.word.EditWord.TheVariants as edit_words
 use Rattle.faust_script.specs.Forms.{client, edit_form, event_form}
-use Rattle.faust_script.specs.InRange.{IsEditFor, IsEventFor, IsPlace, IsScript}
+use Rattle.faust_script.specs.InRange.{IsEditFor, IsEventFor, IsFormat, IsPlace, IsScript}
 use Rattle.faust_script.specs.Parsing.{script_form}
 use Rattle.faust_script.specs.Scripts.{AreEventLines, IsScriptText, Spells, SpellsEdit, SpellsEditing, SpellsEvent}
 use Rattle.faust_script.specs.Words.{edit_text, event_text}
@@ -79,10 +80,17 @@ events_in_range n [] texts are = tt
 events_in_range n (x ∷ events) [] are = absurd are
 events_in_range n (x ∷ events) (text ∷ texts) are = (event_in_range n x (tokens_of text) are.0, events_in_range n events texts are.1)
 
+-- A line of the wire stands under format 2 alone.
+format_known : (format wire : ℕ) (wires : List (List ℕ)) → SpellsWire format wire wires → IsFormat format wire
+format_known format wire [] is = inl is
+format_known format wire (line ∷ []) is = inr is.0
+format_known format wire (line ∷ more ∷ wires) is = absurd is
+
 -- A script that has a text is in range.
 pub script_in_range : (input : List ℕ) (script : Script) → IsScriptText script input → IsScript script
 script_in_range input script is = record {
-  config_in_range = head_in_range script_form is.format script.config is.head (lit≤ tt) is.head_spelled;
+  format_known = format_known script.format script.config.wire is.head_spelled.wires is.head_spelled.wire_spelled;
+  config_in_range = head_in_range script_form script.format script.config is.head (lit≤ tt) is.head_spelled;
   events_in_range = events_in_range script.config.clients script.events is.lines is.events_spelled;
   few_events = is.few_events;
 }

@@ -30,7 +30,7 @@ record HeadPart (head : Head) (lines : List TextLine) (script : Script) : Type 0
   lines_are : lines ≡ ended_lines texts ++ behind
   fit : AllByRecursion FitsLine texts
   read : head_read script_form (Next head) texts ≡ Ok (Whole format config)
-  rest : lines_from (stages.Events (empty_script config)) number_behind behind ≡ Ok script
+  rest : lines_from (stages.Events (empty_script format config)) number_behind behind ≡ Ok script
 
 step_cases : (step : HeadStep) → ((head : Head) × (step ≡ Next head)) ⊎ ((format : ℕ) × (config : Config) × (step ≡ Whole format config))
 step_cases (Next head) = inl (head, refl)
@@ -66,7 +66,7 @@ head_only (line ∷ lines) head number script found =
             rest = more.rest;
           }
       | inr made ↦
-          let on : stages.Events (empty_script made.1) ≡ next.0 = sym (ap after_head made.2) ∙ stage_is in
+          let on : stages.Events (empty_script made.0 made.1) ≡ next.0 = sym (ap after_head made.2) ∙ stage_is in
           record {
             texts = text.0 ∷ [];
             format = made.0;
@@ -85,6 +85,10 @@ pub head_line_read : (head : Head) (step : HeadStep) (text : List ℕ) → head_
 unfolding text_at
 head_line_read head step text read = ap (λ r. r >>= (λ s. Ok (after_head s))) read
 
+abbrev format_in : ℕ → HeadStep → ℕ
+format_in default (Next head) = default
+format_in default (Whole format config) = format
+
 abbrev config_in : Config → HeadStep → Config
 config_in default (Next head) = default
 config_in default (Whole format config) = config
@@ -92,7 +96,7 @@ config_in default (Whole format config) = config
 head_found : (texts : List (List ℕ)) (head : Head) (number format : ℕ) (config : Config) (behind : List TextLine)
     → AllByRecursion FitsLine texts
     → head_read script_form (Next head) texts ≡ Ok (Whole format config)
-    → lines_from (stages.Head head) number (ended_lines texts ++ behind) ≡ lines_from (stages.Events (empty_script config)) (number + length texts) behind
+    → lines_from (stages.Head head) number (ended_lines texts ++ behind) ≡ lines_from (stages.Events (empty_script format config)) (number + length texts) behind
 head_found [] head number format config behind fit read = absurd (let e = ok_same (Next head) (Whole format config) read in cc)
 head_found (text ∷ texts) head number format config behind fit read =
     let step = bind_ok (head_at script_form head (tokens_of text)) (λ s. head_read script_form s texts) (Whole format config) read in
@@ -101,19 +105,21 @@ head_found (text ∷ texts) head number format config behind fit read =
       | inl more ↦
           let rest = head_found texts more.0 (number + 1) format config behind fit.1 (ap (λ s. head_read script_form s texts) (sym more.1) ∙ step.2) in
           first ∙ (ap (λ s. lines_from (after_head s) (number + 1) (ended_lines texts ++ behind)) more.1
-          ∙ (rest ∙ ap (λ q. lines_from (stages.Events (empty_script config)) q behind) (omega arith)))
+          ∙ (rest ∙ ap (λ q. lines_from (stages.Events (empty_script format config)) q behind) (omega arith)))
       | inr made ↦
           let last = nothing_behind script_form made.0 made.1 texts format config (ap (λ s. head_read script_form s texts) (sym made.2) ∙ step.2) in
+          let same_format : made.0 ≡ format = ap (format_in made.0) last.1 in
           let same : made.1 ≡ config = ap (config_in made.1) last.1 in
           let none = ap length last.0 in
           first ∙ (ap (λ s. lines_from (after_head s) (number + 1) (ended_lines texts ++ behind)) made.2
-          ∙ (ap (λ c. lines_from (stages.Events (empty_script c)) (number + 1) (ended_lines texts ++ behind)) same
-          ∙ (ap (λ ts. lines_from (stages.Events (empty_script config)) (number + 1) (ended_lines ts ++ behind)) last.0
-          ∙ ap (λ q. lines_from (stages.Events (empty_script config)) q behind) (omega (arith, none)))))
+          ∙ (ap (λ f. lines_from (stages.Events (empty_script f made.1)) (number + 1) (ended_lines texts ++ behind)) same_format
+          ∙ (ap (λ c. lines_from (stages.Events (empty_script format c)) (number + 1) (ended_lines texts ++ behind)) same
+          ∙ (ap (λ ts. lines_from (stages.Events (empty_script format config)) (number + 1) (ended_lines ts ++ behind)) last.0
+          ∙ ap (λ q. lines_from (stages.Events (empty_script format config)) q behind) (omega (arith, none))))))
     ]
 
-no_events_yet : (config : Config) → length (empty_script config).events ≤ 20000
-no_events_yet config = lit≤ tt
+no_events_yet : (format : ℕ) (config : Config) → length (empty_script format config).events ≤ 20000
+no_events_yet format config = lit≤ tt
 
 -- Texts of lines.
 line_texts : (texts : List (List ℕ)) → AllByRecursion (IsWithout 10) texts → AllByRecursion FitsLine texts → AllByRecursion IsLineText texts
@@ -139,14 +145,13 @@ fit_parts (x ∷ xs) ys fit = let more = fit_parts xs ys fit.1 in ((fit.0, more.
 -- What is read is a script's text.
 script_read : (input : List ℕ) (script : Script) → HeadPart heads.Title (lines_of input) script → IsScriptText script input
 script_read input script h =
-    let r = events_only (empty_script h.config) h.number_behind h.behind script (no_events_yet h.config) h.rest in
+    let r = events_only (empty_script h.format h.config) h.number_behind h.behind script (no_events_yet h.format h.config) h.rest in
     let behind = r.texts ++ end_text ∷ [] in
     let texts = h.texts ++ behind in
     let lines : lines_of input ≡ ended_lines texts =
     h.lines_are ∙ (ap (λ ls. ended_lines h.texts ++ ls) r.lines_are ∙ sym (ended_lines-append h.texts behind)) in
     let whole = ended_text-only input texts lines in
-    let read : IsScriptText (record (empty_script h.config) { events = r.events }) input = record {
-      format = h.format;
+    let read : IsScriptText (record (empty_script h.format h.config) { events = r.events }) input = record {
       head = h.texts;
       lines = r.texts;
       line_texts = line_texts texts whole.1 (fit_append h.texts behind h.fit r.fit);
@@ -171,10 +176,10 @@ script_found input script is =
     let fit = fit_parts is.head behind (all_fit texts is.line_texts) in
     let lines : lines_of input ≡ ended_lines is.head ++ ended_lines behind =
     ap lines_of is.input_is ∙ (lines_of_ended_text texts (without_feeds texts is.line_texts) ∙ ended_lines-append is.head behind) in
-    let head = (heads_are script_form is.head is.format config).1 is.head_spelled in
+    let head = (heads_are script_form is.head script.format config).1 is.head_spelled in
     ap (lines_from start 1) lines
-    ∙ (head_found is.head heads.Title 1 is.format config (ended_lines behind) fit.0 head
-    ∙ events_found (empty_script config) (1 + length is.head) script.events is.lines is.events_spelled fit.1 is.few_events)
+    ∙ (head_found is.head heads.Title 1 script.format config (ended_lines behind) fit.0 head
+    ∙ events_found (empty_script script.format config) (1 + length is.head) script.events is.lines is.events_spelled fit.1 is.few_events)
 
 -- Bytes are read as the script whose text they are, and no other bytes are read.
 pub script_texts : (input : List ℕ) (script : Script) → (parsed input ≡ Ok script) ↔ IsScriptText script input

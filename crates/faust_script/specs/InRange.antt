@@ -1,5 +1,5 @@
 -- Which scripts are in range: what those who play or make scripts may count on; `parse` promises it.
-use Rattle.std.specs.Prelude.{ℕ, ◌≤◌, List, length}
+use Rattle.std.specs.Prelude.{◌≡◌, ℕ, ◌≤◌, ◌⊎◌, List, length}
 use Rattle.std.specs.List.{AllByRecursion}
 use Rattle.faust_types.specs.Bytes.{AreBytes, IsValue}
 use Rattle.faust_types.specs.Clients.{IsClient}
@@ -60,7 +60,12 @@ IsEventFor n (event.Edited i made) = IsClient n i × IsEditFor n made
 IsEventFor n (event.Forged i made) = IsClient n i × IsEditFor n made
 IsEventFor n (event.Raw i bytes) = IsClient n i × IsMessageBytes bytes
 
+-- A format, 1 or 2, and the wire's version under it: format 1 means wire 1.
+abbrev pub IsFormat : ℕ → ℕ → Type 0
+IsFormat format wire = ((format ≡ 1) × (wire ≡ 1)) ⊎ (format ≡ 2)
+
 pub record IsScript (script : Script) : Type 0 where
+  pub format_known : IsFormat script.format script.config.wire
   pub config_in_range : IsConfig script.config
   pub events_in_range : AllByRecursion (IsEventFor script.config.clients) script.events
   pub few_events : length script.events ≤ 20000

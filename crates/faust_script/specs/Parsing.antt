@@ -24,21 +24,21 @@ use Rattle.faust_script.specs.declared.stage.Stage.{Stage}
 use Rattle.faust_script.specs.declared.stage.Stage.TheVariants as stages
 use Rattle.faust_script.specs.Forms.{event_at}
 
--- The heads of scripts: `faust 1`, and at most 32 clients.
+-- The heads of scripts: `faust 1`, or `faust 2` with a line of the wire, and at most 32 clients.
 abbrev pub script_form : HeadForm
-script_form = record { title = titles.Script; formats = 1; clients = 32 }
+script_form = record { title = titles.Script; formats = 2; clients = 32 }
 
 -- Nothing was read: the first line of the head is due.
 abbrev pub start : Stage
 start = stages.Head heads.Title
 
-abbrev pub empty_script : Config → Script
-empty_script config = record { config = config; events = [] }
+abbrev pub empty_script : ℕ → Config → Script
+empty_script format config = record { format = format; config = config; events = [] }
 
 -- After a line of the head; the line after the last of them is the first of the events.
 abbrev pub after_head : HeadStep → Stage
 after_head (steps.Next head) = stages.Head head
-after_head (steps.Whole format config) = stages.Events (empty_script config)
+after_head (steps.Whole format config) = stages.Events (empty_script format config)
 
 abbrev pub with_event : Script → Event → Script
 with_event script event = record script { events = script.events ++ event ∷ [] }

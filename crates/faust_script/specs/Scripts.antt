@@ -84,13 +84,12 @@ pub record IsLineText (text : List ℕ) : Type 0 where
   pub one_line : IsWithout 10 text
   pub not_too_long : length text ≤ 40000
 
--- The bytes are the text of the script: the lines of a head, one line an event of at most 20,000 events, and `end`.
+-- The bytes are the text of the script: the lines of a head in its format, one line an event of at most 20,000 events, and `end`.
 pub record IsScriptText (script : Script) (input : List ℕ) : Type 0 where
-  pub format : ℕ
   pub head : List (List ℕ)
   pub lines : List (List ℕ)
   pub line_texts : AllByRecursion IsLineText (head ++ (lines ++ codes "end" ∷ []))
   pub input_is : input ≡ ended_text (head ++ (lines ++ codes "end" ∷ []))
-  pub head_spelled : AreHeadLines script_form format script.config head
+  pub head_spelled : AreHeadLines script_form script.format script.config head
   pub events_spelled : AreEventLines script.config.clients script.events lines
   pub few_events : length script.events ≤ 20000

@@ -9,10 +9,10 @@ use faust_text::{Cause, Head, HeadForm, HeadStep, Line, LineError, Title, whole_
 use faust_types::{MAX_CLIENTS, Sequence};
 use std::alloc::Global;
 
-/// Scripts are of format 1, for at most 32 clients.
+/// Scripts are of format 1 or 2, for at most 32 clients.
 const SCRIPT_HEAD: HeadForm = HeadForm {
     title: Title::Script,
-    formats: 1,
+    formats: 2,
     clients: MAX_CLIENTS,
 };
 
@@ -58,7 +58,8 @@ impl Stage {
         match self {
             Stage::Head(head) => match head.read(alloc, SCRIPT_HEAD, text)? {
                 HeadStep::Next(head) => Ok(Stage::Head(head)),
-                HeadStep::Whole { config, .. } => Ok(Stage::Events(Script {
+                HeadStep::Whole { format, config } => Ok(Stage::Events(Script {
+                    format,
                     config,
                     events: Sequence::new(alloc),
                 })),

@@ -115,6 +115,8 @@ fn every_event_and_edit(rt: HostRuntime) -> Result<(), Fail> {
     }
     text.append(b"end\n")?;
     let script = parse(rt.alloc(), text.as_slice())?;
+    assert_eq!(rt; script.format, 1);
+    assert_eq!(rt; script.config.wire, 1);
     assert_eq!(rt; script.config.clients, 32);
     assert_eq!(rt; script.config.key.as_slice(), [0, 1, 2, 255].as_slice());
     assert_eq!(rt; script.config.delta, 1_099_511_627_775);
@@ -124,5 +126,23 @@ fn every_event_and_edit(rt: HostRuntime) -> Result<(), Fail> {
         let found = format!(in rt.alloc(); "{event:?}")?;
         assert_eq!(rt; found.as_str(), *shown, "{line:?}");
     }
+    Ok(())
+}
+
+#[test]
+fn the_wire_of_format_2(rt: HostRuntime) -> Result<(), Fail> {
+    let old = parse(
+        rt.alloc(),
+        b"faust 2\nwire 1\nclients 2\nkey 00\ndelta 1\ndummy 1\nend\n",
+    )?;
+    assert_eq!(rt; (old.format, old.config.wire), (2, 1));
+    let riding = parse(
+        rt.alloc(),
+        b"faust 2\nwire 2\nclients 3\nkey 00\ndelta 1\ndummy 1\nend\n",
+    )?;
+    assert_eq!(rt;
+        (riding.format, riding.config.wire, riding.config.clients),
+        (2, 2, 3)
+    );
     Ok(())
 }

@@ -5,12 +5,11 @@ use faust_types::OutOfMemory;
 /// A front of the script, the line that is refused, and the cause.
 type Refused = (&'static [u8], u64, Cause);
 
-const HEADS: [Refused; 46] = [
+const HEADS: [Refused; 53] = [
     (b"", 1, Cause::CutOff),
     (b"\n", 1, Cause::Word),
     (b"faust 1", 1, Cause::CutOff),
     (b"faust 2", 1, Cause::CutOff),
-    (b"faust 2\n", 1, Cause::Word),
     (b"faust 3\n", 1, Cause::Word),
     (b"faust 01\n", 1, Cause::Word),
     (b"faust 1 \n", 1, Cause::Word),
@@ -20,6 +19,14 @@ const HEADS: [Refused; 46] = [
     (b"faust 1\r\n", 1, Cause::Word),
     (b"end\n", 1, Cause::Word),
     (b"faust 1\n", 2, Cause::CutOff),
+    (b"faust 2\n", 2, Cause::CutOff),
+    (b"faust 2\nclients 2\n", 2, Cause::Word),
+    (b"faust 2\nwire\n", 2, Cause::Word),
+    (b"faust 2\nwire 01\n", 2, Cause::Word),
+    (b"faust 2\nwire 0\n", 2, Cause::Number),
+    (b"faust 2\nwire 3\n", 2, Cause::Number),
+    (b"faust 2\nwire 2\nclients 33\n", 3, Cause::Number),
+    (b"faust 1\nwire 1\n", 2, Cause::Word),
     (b"faust 1\nclients 2", 2, Cause::CutOff),
     (b"faust 1\nend\n", 2, Cause::Word),
     (b"faust 1\nkey 00\n", 2, Cause::Word),
