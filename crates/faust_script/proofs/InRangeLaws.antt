@@ -1,11 +1,11 @@
 -- What a script's text spells is in range.
-use Rattle.std.proofs.Common.{◌≡◌, ℕ, ◌^◌, ◌-◌, ◌<◌, ◌≤◌, List, [], ◌∷◌, inl, inr, lit≤, arith}
+use Rattle.std.proofs.Common.{ℕ, ◌^◌, ◌-◌, ◌≤◌, List, [], ◌∷◌, inl, inr, lit≤, arith}
 use Rattle.std.specs.List.{AllByRecursion}
 use Rattle.faust_types.specs.Clients.{IsClient}
 use Rattle.faust_types.specs.Ranges.{IsOperationNumber}
 use Rattle.faust_text.specs.Fields.{Field, AllGiven}
 use Rattle.faust_text.specs.Heads.{SpellsWire}
-use Rattle.faust_text.specs.Spelled.{AreInRange, IsNumberIn, SpellsField}
+use Rattle.faust_text.specs.Spelled.{AreInRange}
 use Rattle.faust_text.specs.Tokens.{tokens_of}
 use Rattle.faust_text.proofs.FieldLaws.{fields_in_range}
 use Rattle.faust_text.proofs.HeadLaws.{head_in_range}
@@ -16,7 +16,7 @@ use Rattle.faust_script.specs.declared.edit.Edit.TheVariants as edit
 use Rattle.faust_script.specs.declared.script.Script.{Script}
 use Rattle.faust_script.specs.declared.word.EventWord.TheVariants as words
 use Rattle.faust_script.specs.declared.word.EditWord.TheVariants as edit_words
-use Rattle.faust_script.specs.Forms.{client, edit_form, event_form}
+use Rattle.faust_script.specs.Forms.{edit_form, event_form}
 use Rattle.faust_script.specs.InRange.{IsEditFor, IsEventFor, IsFormat, IsPlace, IsScript}
 use Rattle.faust_script.specs.Parsing.{script_form}
 use Rattle.faust_script.specs.Scripts.{AreEventLines, IsScriptText, Spells, SpellsEdit, SpellsEditing, SpellsEvent}
