@@ -1,0 +1,72 @@
+// The pieces that the lines of a report are made of.
+ghost use Rattle.std.specs.Prelude.{◌≡◌, ◌∷◌, ◌++◌, flat_map, OnOk};
+ghost use Rattle.std.specs.Fmt.{decimal};
+ghost use Rattle.faust_text.specs.Values.{value_text};
+ghost use Rattle.faust_report.specs.Text.{client_text, name_text, register_text};
+
+use faust_text::{put_number, put_value};
+use faust_types::{Bytes, OpName, OutOfMemory};
+
+pub(crate) fn put_name(out: &mut Bytes, name: OpName) -> Result<(), OutOfMemory>
+    ensures { OnOk result (out.new ≡ out.old ++ name_text name) }
+{
+    put_number(out, u64::from(name.client))?;
+    out.push(b'.')?;
+    put_number(out, name.t)
+}
+
+pub(crate) fn put_register(out: &mut Bytes, register: u8) -> Result<(), OutOfMemory>
+    ensures { OnOk result (out.new ≡ out.old ++ register_text register) }
+{
+    out.push(b'X')?;
+    put_number(out, u64::from(register))
+}
+
+pub(crate) fn put_client(out: &mut Bytes, client: u64) -> Result<(), OutOfMemory>
+    ensures { OnOk result (out.new ≡ out.old ++ client_text client) }
+{
+    put_number(out, client)?;
+    out.push(b':')
+}
+
+pub(crate) fn put_read_value(out: &mut Bytes, value: &Option<Bytes>) -> Result<(), OutOfMemory>
+    ensures { OnOk result (out.new ≡ out.old ++ value_text value.now) }
+{
+    match value {
+        None => put_value(out, None),
+        Some(value) => put_value(out, Some(value.as_slice())),
+    }
+}
+
+/// Puts names behind the text, each behind a blank.
+pub(crate) fn put_names(out: &mut Bytes, names: &[OpName]) -> Result<(), OutOfMemory>
+    ensures { OnOk result (out.new ≡ out.old ++ flat_map (λ name. 32 ∷ name_text name) names.now) }
+{
+    for name in names {
+        out.push(b' ')?;
+        put_name(out, *name)?;
+    }
+    Ok(())
+}
+
+/// Puts numbers behind the text, each behind a blank.
+pub(crate) fn put_numbers(out: &mut Bytes, numbers: &[u64]) -> Result<(), OutOfMemory>
+    ensures { OnOk result (out.new ≡ out.old ++ flat_map (λ x. 32 ∷ decimal x) numbers.now) }
+{
+    for x in numbers {
+        out.push(b' ')?;
+        put_number(out, *x)?;
+    }
+    Ok(())
+}
+
+/// Puts numbers of clients behind the text, each behind a blank.
+pub(crate) fn put_clients(out: &mut Bytes, clients: &[u8]) -> Result<(), OutOfMemory>
+    ensures { OnOk result (out.new ≡ out.old ++ flat_map (λ x. 32 ∷ decimal x) clients.now) }
+{
+    for client in clients {
+        out.push(b' ')?;
+        put_number(out, u64::from(*client))?;
+    }
+    Ok(())
+}
