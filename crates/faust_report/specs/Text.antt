@@ -54,10 +54,11 @@ abbrev pub dummy_line : ℕ → Operation → List ℕ
 dummy_line entry op = joined (decimal entry ∷ codes "dummy" ∷ name_text op.name ∷ register_text op.register ∷ [])
 
 -- `Q fail I: check C place P`: a check broke.
+abbrev pub notice_text : Notice → List ℕ
+notice_text notice = joined (codes "check" ∷ decimal notice.check ∷ codes "place" ∷ decimal notice.place ∷ [])
+
 abbrev pub fail_line : ℕ → ℕ → Notice → List ℕ
-fail_line entry client notice =
-    joined (decimal entry ∷ codes "fail" ∷ client_text client
-    ∷ codes "check" ∷ decimal notice.check ∷ codes "place" ∷ decimal notice.place ∷ [])
+fail_line entry client notice = joined (decimal entry ∷ codes "fail" ∷ client_text client ∷ notice_text notice ∷ [])
 
 -- The lines of an entry, each only where it applies.
 abbrev pub if_some : {A : Type 0} → (A → List ℕ) → Option A → List (List ℕ)

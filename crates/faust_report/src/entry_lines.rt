@@ -2,9 +2,11 @@
 ghost use Rattle.std.specs.Prelude.{◌≡◌, [], ◌∷◌, ◌++◌, OnOk};
 ghost use Rattle.faust_text.specs.Lines.{ended_text};
 ghost use Rattle.faust_types.specs.declared.operation.Kind.TheVariants.{Read, Write};
-ghost use Rattle.faust_report.specs.Text.{answer_text, cut_line, done_line, dummy_line, fact_lines, fail_line, if_any, if_some, probe_line};
+ghost use Rattle.faust_report.specs.Text.{answer_text, cut_line, done_line, dummy_line, fact_lines, fail_line, if_any, if_some, notice_text, probe_line};
 
-use crate::pieces::{put_client, put_clients, put_name, put_numbers, put_read_value, put_register};
+use crate::pieces::{
+    put_client, put_client_clients, put_client_numbers, put_name, put_read_value, put_register,
+};
 use faust_record::Fact;
 use faust_text::put_number;
 use faust_types::{Answer, Bytes, Clients, Cut, Kind, Notice, Operation, OutOfMemory};
@@ -81,8 +83,7 @@ fn put_changed_cut(out: &mut Bytes, entry: u64, client: u8, cut: &Cut) -> Result
 {
     put_number(out, entry)?;
     out.append(b" cut ")?;
-    put_client(out, u64::from(client))?;
-    put_numbers(out, cut.as_slice())?;
+    put_client_numbers(out, client, cut.as_slice())?;
     out.push(b'\n')
 }
 
@@ -101,8 +102,7 @@ fn put_probe(out: &mut Bytes, entry: u64, client: u8, probed: &Clients) -> Resul
 {
     put_number(out, entry)?;
     out.append(b" probe ")?;
-    put_client(out, u64::from(client))?;
-    put_clients(out, probed.as_slice())?;
+    put_client_clients(out, client, probed.as_slice())?;
     out.push(b'\n')
 }
 
@@ -146,9 +146,16 @@ fn put_fail(out: &mut Bytes, entry: u64, client: u8, notice: Notice) -> Result<(
     put_number(out, entry)?;
     out.append(b" fail ")?;
     put_client(out, u64::from(client))?;
-    out.append(b" check ")?;
+    out.push(b' ')?;
+    put_notice_text(out, notice)?;
+    out.push(b'\n')
+}
+
+fn put_notice_text(out: &mut Bytes, notice: Notice) -> Result<(), OutOfMemory>
+    ensures { OnOk result (out.new ≡ out.old ++ notice_text notice) }
+{
+    out.append(b"check ")?;
     put_number(out, u64::from(notice.check))?;
     out.append(b" place ")?;
-    put_number(out, u64::from(notice.place))?;
-    out.push(b'\n')
+    put_number(out, u64::from(notice.place))
 }

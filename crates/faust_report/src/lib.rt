@@ -7,6 +7,7 @@
 #![tactic(auto)]
 
 mod entry_lines;
+mod lines;
 mod pieces;
 mod report;
 #[cfg(test)]

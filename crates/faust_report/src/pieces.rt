@@ -1,5 +1,6 @@
 // The pieces that the lines of a report are made of.
-ghost use Rattle.std.specs.Prelude.{◌≡◌, ◌∷◌, ◌++◌, flat_map, OnOk};
+ghost use Rattle.std.specs.Prelude.{◌≡◌, ◌∷◌, ◌++◌, codes, flat_map, map, OnOk};
+ghost use Rattle.faust_text.specs.Tokens.{joined};
 ghost use Rattle.std.specs.Fmt.{decimal};
 ghost use Rattle.faust_text.specs.Values.{value_text};
 ghost use Rattle.faust_report.specs.Text.{client_text, name_text, register_text};
@@ -38,8 +39,52 @@ pub(crate) fn put_read_value(out: &mut Bytes, value: &Option<Bytes>) -> Result<(
     }
 }
 
+/// Puts a client and names behind the text, with a blank before each name.
+pub(crate) fn put_client_names(
+    out: &mut Bytes,
+    client: u64,
+    names: &[OpName],
+) -> Result<(), OutOfMemory>
+    ensures { OnOk result (out.new ≡ out.old ++ joined (client_text client ∷ map name_text names.now)) }
+{
+    put_client(out, client)?;
+    put_names(out, names)
+}
+
+/// Puts a client and numbers behind the text, with a blank before each number.
+pub(crate) fn put_client_numbers(
+    out: &mut Bytes,
+    client: u8,
+    numbers: &[u64],
+) -> Result<(), OutOfMemory>
+    ensures { OnOk result (out.new ≡ out.old ++ joined (client_text client ∷ map decimal numbers.now)) }
+{
+    put_client(out, u64::from(client))?;
+    put_numbers(out, numbers)
+}
+
+/// Puts a client and other clients behind the text, with a blank before each of these.
+pub(crate) fn put_client_clients(
+    out: &mut Bytes,
+    client: u8,
+    others: &[u8],
+) -> Result<(), OutOfMemory>
+    ensures { OnOk result (out.new ≡ out.old ++ joined (client_text client ∷ map decimal others.now)) }
+{
+    put_client(out, u64::from(client))?;
+    put_clients(out, others)
+}
+
+/// Puts the title of the order and its names behind the text, with a blank before each name.
+pub(crate) fn put_order_names(out: &mut Bytes, names: &[OpName]) -> Result<(), OutOfMemory>
+    ensures { OnOk result (out.new ≡ out.old ++ joined (codes "order:" ∷ map name_text names.now)) }
+{
+    out.append(b"order:")?;
+    put_names(out, names)
+}
+
 /// Puts names behind the text, each behind a blank.
-pub(crate) fn put_names(out: &mut Bytes, names: &[OpName]) -> Result<(), OutOfMemory>
+fn put_names(out: &mut Bytes, names: &[OpName]) -> Result<(), OutOfMemory>
     ensures { OnOk result (out.new ≡ out.old ++ flat_map (λ name. 32 ∷ name_text name) names.now) }
 {
     for name in names {
@@ -50,7 +95,7 @@ pub(crate) fn put_names(out: &mut Bytes, names: &[OpName]) -> Result<(), OutOfMe
 }
 
 /// Puts numbers behind the text, each behind a blank.
-pub(crate) fn put_numbers(out: &mut Bytes, numbers: &[u64]) -> Result<(), OutOfMemory>
+fn put_numbers(out: &mut Bytes, numbers: &[u64]) -> Result<(), OutOfMemory>
     ensures { OnOk result (out.new ≡ out.old ++ flat_map (λ x. 32 ∷ decimal x) numbers.now) }
 {
     for x in numbers {
@@ -61,7 +106,7 @@ pub(crate) fn put_numbers(out: &mut Bytes, numbers: &[u64]) -> Result<(), OutOfM
 }
 
 /// Puts numbers of clients behind the text, each behind a blank.
-pub(crate) fn put_clients(out: &mut Bytes, clients: &[u8]) -> Result<(), OutOfMemory>
+fn put_clients(out: &mut Bytes, clients: &[u8]) -> Result<(), OutOfMemory>
     ensures { OnOk result (out.new ≡ out.old ++ flat_map (λ x. 32 ∷ decimal x) clients.now) }
 {
     for client in clients {

@@ -1,0 +1,8 @@
+use Rattle.std.proofs.Common.{arith}
+use Rattle.faust_report.specs.Text.{client_text, name_text}
+use Rattle.std.proofs.lemmas.Grind.{common_steps}
+use Rattle.faust_report.proofs.Pieced.{joined_map}
+use Rattle.faust_report.proofs.pieces.put_client_names.Goals as goal
+
+pub returns : goal.returns
+returns c = rw (joined_map name_text (client_text c.args.client) c.args.names.now) (grind (arith, common_steps))
