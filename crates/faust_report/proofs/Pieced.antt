@@ -51,3 +51,47 @@ views_more views i names lt =
     ∙ (ap (λ k. ended_text (before ++ view_lines k (one ∷ []))) k
     ∙ (ended_append before (view_line (i + 1) one ∷ [])
     ∙ ap (λ text. ended_text before ++ text) (append-nil (view_line (i + 1) one ++ 10 ∷ []))))
+
+-- One turn of the loops: what is put behind the text, and what stands there then.
+pub facts_step : (facts : List Fact) (i : ℕ) (fact : Fact) (start before after : List ℕ) → i < length facts
+    → fact ≡ get_or facts i fact
+    → before ≡ start ++ ended_text (flat_map fact_lines (take i facts))
+    → after ≡ before ++ ended_text (fact_lines fact)
+    → after ≡ start ++ ended_text (flat_map fact_lines (take (i + 1) facts))
+facts_step facts i fact start before after lt is so_far put =
+    let lines = ended_text (flat_map fact_lines (take i facts)) in
+    let one = ended_text (fact_lines fact) in
+    (put ∙ ap (λ text. text ++ one) so_far)
+    ∙ (append_assoc start lines one
+    ∙ ap (λ text. start ++ text)
+    (ap (λ (f : Fact). lines ++ ended_text (fact_lines f)) is ∙ sym (facts_more facts i fact lt)))
+
+pub views_step : (views : List (List OpName)) (i : ℕ) (names : List OpName) (start before after : List ℕ) → i < length views
+    → names ≡ get_or views i names
+    → before ≡ start ++ ended_text (view_lines 1 (take i views))
+    → after ≡ before ++ (view_line (i + 1) names ++ 10 ∷ [])
+    → after ≡ start ++ ended_text (view_lines 1 (take (i + 1) views))
+views_step views i names start before after lt is so_far put =
+    let lines = ended_text (view_lines 1 (take i views)) in
+    let one = view_line (i + 1) names ++ 10 ∷ [] in
+    (put ∙ ap (λ text. text ++ one) so_far)
+    ∙ (append_assoc start lines one
+    ∙ ap (λ text. start ++ text)
+    (ap (λ (ns : List OpName). lines ++ (view_line (i + 1) ns ++ 10 ∷ [])) is ∙ sym (views_more views i names lt)))
+
+-- The pieces of a whole report together.
+grouped : (a b c d e : List ℕ) → (((a ++ b) ++ c) ++ d) ++ e ≡ a ++ (b ++ (c ++ (d ++ e)))
+grouped a b c d e = simp append_assoc
+
+pub report_put : (title : List ℕ) (entries : List (List ℕ)) (departure : List ℕ) (order : List (List ℕ)) (last : List ℕ)
+    → ((((title ++ 10 ∷ []) ++ ended_text entries) ++ (departure ++ 10 ∷ [])) ++ ended_text order) ++ (last ++ 10 ∷ [])
+    ≡ ended_text (title ∷ (entries ++ (departure ∷ (order ++ last ∷ []))))
+report_put title entries departure order last =
+    let tail : ended_text (order ++ last ∷ []) ≡ ended_text order ++ (last ++ 10 ∷ []) =
+    ended_append order (last ∷ []) ∙ ap (λ text. ended_text order ++ text) (append-nil (last ++ 10 ∷ [])) in
+    let behind : ended_text (entries ++ (departure ∷ (order ++ last ∷ [])))
+    ≡ ended_text entries ++ ((departure ++ 10 ∷ []) ++ (ended_text order ++ (last ++ 10 ∷ []))) =
+    ended_append entries (departure ∷ (order ++ last ∷ []))
+    ∙ ap (λ text. ended_text entries ++ ((departure ++ 10 ∷ []) ++ text)) tail in
+    grouped (title ++ 10 ∷ []) (ended_text entries) (departure ++ 10 ∷ []) (ended_text order) (last ++ 10 ∷ [])
+    ∙ ap (λ text. (title ++ 10 ∷ []) ++ text) (sym behind)

@@ -23,7 +23,6 @@ pub(crate) fn put_entries_line(out: &mut Bytes, entries: u64) -> Result<(), OutO
     out.push(b'\n')
 }
 
-#[tactic(auto, using(crate::proofs::Pieced::views_more))]
 /// Puts the lines of the views behind the text, from that of client 1 on.
 pub(crate) fn put_views(out: &mut Bytes, views: &[Names]) -> Result<(), OutOfMemory>
     ensures { OnOk result (out.new ≡ out.old ++ ended_text (view_lines 1 views.now)) }

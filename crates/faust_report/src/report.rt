@@ -42,7 +42,6 @@ fn put_entries(out: &mut Bytes, findings: &Findings) -> Result<(), OutOfMemory>
     put_facts(out, findings.facts.as_slice())
 }
 
-#[tactic(auto, using(crate::proofs::Pieced::facts_more))]
 fn put_facts(out: &mut Bytes, facts: &[Fact]) -> Result<(), OutOfMemory>
     ensures { OnOk result (out.new ≡ out.old ++ ended_text (flat_map fact_lines facts.now)) }
 {
