@@ -1,7 +1,7 @@
 // The pieces that the lines of a report are made of.
 ghost use Rattle.std.specs.Prelude.{◌≡◌, ◌∷◌, ◌++◌, codes, flat_map, map, OnOk};
-ghost use Rattle.faust_text.specs.Tokens.{joined};
 ghost use Rattle.std.specs.Fmt.{decimal};
+ghost use Rattle.faust_text.specs.Tokens.{joined};
 ghost use Rattle.faust_text.specs.Values.{value_text};
 ghost use Rattle.faust_report.specs.Text.{client_text, name_text, register_text};
 

@@ -9,7 +9,6 @@ use faust_types::{Bytes, OutOfMemory, Sequence};
 use std::alloc::Global;
 
 /// The report of the findings.
-#[tactic(auto, unfolding(crate::specs::Text::report_text))]
 pub fn text(alloc: Global, findings: &Findings) -> Result<Bytes, OutOfMemory>
     ensures { IfOk result (λ text. text ≡ report_text findings.now) }
 {
@@ -23,7 +22,6 @@ pub fn text(alloc: Global, findings: &Findings) -> Result<Bytes, OutOfMemory>
 }
 
 /// The lines of the report from the number of clients to the last view.
-#[tactic(auto, unfolding(crate::specs::Text::body_text))]
 pub fn body(alloc: Global, findings: &Findings) -> Result<Bytes, OutOfMemory>
     ensures { IfOk result (λ text. text ≡ body_text findings.now) }
 {
