@@ -1,7 +1,9 @@
-//! The report of a run as text. `text` gives the whole report of findings, and `body` its lines from the number of
-//! clients to the last view. Each is exactly the text that the definitions say, of any findings.
+//! The report of a run as text. `text` gives the whole report of findings, `body` its lines from the number of
+//! clients to the last view, and `summary` the few lines on a run that was made from a seed. Each is exactly the text
+//! that the definitions say, of any findings.
 //!
-//! `specs/Text.antt` comes first and is all there is: one definition a line of the report, in the order of the lines.
+//! `specs/Text.antt` comes first: one definition a line of the report, in the order of the lines. `specs/Summary.antt`
+//! says the lines of the summary, and what is counted in them.
 //!
 //! Where findings come from, and whether they are true of a run, is not the business of this crate.
 #![tactic(auto)]
@@ -12,5 +14,7 @@ mod pieces;
 mod report;
 #[cfg(test)]
 mod tests;
+mod totals;
 
 pub use report::{body, text};
+pub use totals::summary;

@@ -1,4 +1,4 @@
-use crate::{body, text};
+use crate::{body, summary, text};
 use faust_record::{Fact, Findings};
 use faust_types::{Answer, Kind, Names, Notice, OpName, Operation, OutOfMemory, Sequence};
 use std::alloc::Global;
@@ -116,6 +116,11 @@ fn texts_of_one_write(rt: HostRuntime) -> Result<(), Fail> {
     assert_eq!(rt;
         lines.as_slice(),
         b"clients 2\nentries 4\n2 done 1.1 write X1\n2 cut 1: 1 0\nview 1: 1.1\nview 2:\n".as_slice()
+    );
+    let totals = summary(rt.alloc(), &findings, 7)?;
+    assert_eq!(rt;
+        totals.as_slice(),
+        b"sample seed 7 clients 2\nentries 4\noperations 1 completed 1\ndeparture none\nfailures 0\ncuts whole 1 of 2\nend\n".as_slice()
     );
     Ok(())
 }
