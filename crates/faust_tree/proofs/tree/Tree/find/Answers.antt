@@ -1,0 +1,5 @@
+use Rattle.faust_tree.proofs.Keeping.{kept-is-tree}
+use Rattle.faust_tree.proofs.tree.Tree.find.Goals as goal
+
+pub returns-clause-tree : goal.returns-clause-tree
+returns-clause-tree c = rw (← c.self.view_is) (kept-is-tree _ _ c.self.invariant)
