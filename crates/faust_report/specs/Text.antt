@@ -105,11 +105,11 @@ entry_lines found = clients_line found.clients ∷ entries_line found.entries �
 abbrev pub body_lines : Findings → List (List ℕ)
 body_lines found = entry_lines found ++ view_lines 1 found.views
 
--- The whole report: its title, the entries, the departure, the order, and the end.
+-- The whole report: its title, the entries and the views, the departure, the order, and the end.
 abbrev pub report_lines : Findings → List (List ℕ)
 report_lines found =
     codes "faust report 1"
-    ∷ (entry_lines found
+    ∷ (body_lines found
     ++ (departure_line found.departure
     ∷ (order_lines found.departure found.order
     ++ codes "end" ∷ [])))

@@ -1,6 +1,6 @@
 ghost use Rattle.std.specs.Prelude.{◌≡◌, ◌++◌, flat_map, IfOk, OnOk};
 ghost use Rattle.faust_text.specs.Lines.{ended_text};
-ghost use Rattle.faust_report.specs.Text.{body_text, entry_lines, fact_lines, report_text};
+ghost use Rattle.faust_report.specs.Text.{body_lines, body_text, entry_lines, fact_lines, report_text};
 
 use crate::entry_lines::put_fact;
 use crate::lines::{put_clients_line, put_departure, put_entries_line, put_order, put_views};
@@ -14,7 +14,7 @@ pub fn text(alloc: Global, findings: &Findings) -> Result<Bytes, OutOfMemory>
 {
     let mut out = Sequence::new(alloc);
     out.append(b"faust report 1\n")?;
-    put_entries(&mut out, findings)?;
+    put_body(&mut out, findings)?;
     put_departure(&mut out, findings.departure)?;
     put_order(&mut out, findings.departure, &findings.order)?;
     out.append(b"end\n")?;
@@ -26,9 +26,16 @@ pub fn body(alloc: Global, findings: &Findings) -> Result<Bytes, OutOfMemory>
     ensures { IfOk result (λ text. text ≡ body_text findings.now) }
 {
     let mut out = Sequence::new(alloc);
-    put_entries(&mut out, findings)?;
-    put_views(&mut out, findings.views.as_slice())?;
+    put_body(&mut out, findings)?;
     Ok(out)
+}
+
+/// Puts the lines up to the last view behind the text.
+fn put_body(out: &mut Bytes, findings: &Findings) -> Result<(), OutOfMemory>
+    ensures { OnOk result (out.new ≡ out.old ++ ended_text (body_lines findings.now)) }
+{
+    put_entries(out, findings)?;
+    put_views(out, findings.views.as_slice())
 }
 
 /// Puts the lines up to those of the last entry behind the text.

@@ -110,7 +110,7 @@ fn texts_of_one_write(rt: HostRuntime) -> Result<(), Fail> {
     let report = text(rt.alloc(), &findings)?;
     assert_eq!(rt;
         report.as_slice(),
-        b"faust report 1\nclients 2\nentries 4\n2 done 1.1 write X1\n2 cut 1: 1 0\ndeparture none\norder: 1.1\nend\n".as_slice()
+        b"faust report 1\nclients 2\nentries 4\n2 done 1.1 write X1\n2 cut 1: 1 0\nview 1: 1.1\nview 2:\ndeparture none\norder: 1.1\nend\n".as_slice()
     );
     let lines = body(rt.alloc(), &findings)?;
     assert_eq!(rt;
@@ -131,7 +131,7 @@ fn texts_of_every_line(rt: HostRuntime) -> Result<(), Fail> {
     let report = text(rt.alloc(), &findings)?;
     assert_eq!(rt;
         report.as_slice(),
-        b"faust report 1\nclients 3\nentries 10\n2 done 2.7 read X1 \"a b\" asof 3\n2 cut 2: 0 1 0\n4 probe 1: 2 3\n4 dummy 1.2 X3\n6 done 3.7 read X1 none asof 0\n7 done 2.7 read X1 0x220a asof 1\n9 fail 1: check 13 place 2\ndeparture 9\nend\n".as_slice()
+        b"faust report 1\nclients 3\nentries 10\n2 done 2.7 read X1 \"a b\" asof 3\n2 cut 2: 0 1 0\n4 probe 1: 2 3\n4 dummy 1.2 X3\n6 done 3.7 read X1 none asof 0\n7 done 2.7 read X1 0x220a asof 1\n9 fail 1: check 13 place 2\nview 1:\nview 2: 2.1 1.12\nview 3:\ndeparture 9\nend\n".as_slice()
     );
     let lines = body(rt.alloc(), &findings)?;
     assert_eq!(rt;
