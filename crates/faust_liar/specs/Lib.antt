@@ -1,0 +1,4 @@
+pub mod Branches
+pub mod Edits
+pub mod Lies
+pub mod InRange
