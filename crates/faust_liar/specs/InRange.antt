@@ -10,8 +10,8 @@ use Rattle.faust_types.specs.declared.message.Commit.{Commit}
 use Rattle.faust_types.specs.declared.message.Message.{Message}
 use Rattle.faust_types.specs.declared.message.Message.TheVariants as messages
 use Rattle.faust_wire.specs.Grammar.{IsSpellingOf}
-use Rattle.faust_server.specs.Rows.{client_count}
-use Rattle.faust_liar.specs.Lies.{LiarState, branch_at, session_at, session_count}
+use Rattle.faust_server.specs.States.{IsStateFor}
+use Rattle.faust_liar.specs.Lies.{LiarState, session_at, session_count}
 use Rattle.faust_liar.specs.declared.session.Session.{Session}
 
 -- Where a COMMIT rides on a SUBMIT of client i, it is that of the operation before.
@@ -52,14 +52,20 @@ pub record IsSessionFor (n branches i : ℕ) (session : Session) : Type 0 where
   pub replies_in_range : AllByRecursion (IsAnswer n) session.replies
   pub taken_before : session.taken ≤ length session.replies
 
--- From 1 to 8 branches, each for as many clients as there are sessions.
-pub record IsLiarState (st : LiarState) : Type 0 where
+-- A state for n clients: from 1 to 8 branches, each a state of the honest server for these clients, and a session
+-- for each client.
+pub record IsLiarStateFor (n : ℕ) (st : LiarState) : Type 0 where
   pub wire_known : IsWire st.wire
-  pub count : IsClientCount (session_count st)
+  pub count : IsClientCount n
+  pub sessions_paired : length st.sessions ≡ n
   pub one_branch : 1 ≤ length st.branches
   pub few_branches : length st.branches ≤ 8
-  pub branches_paired : (b : ℕ) → b < length st.branches → client_count (branch_at st b) ≡ session_count st
-  pub sessions_in_range : (i : ℕ) → IsClient (session_count st) i → IsSessionFor (session_count st) (length st.branches) i (session_at st i)
+  pub branches_in_range : AllByRecursion (IsStateFor n) st.branches
+  pub sessions_in_range : (i : ℕ) → IsClient n i → IsSessionFor n (length st.branches) i (session_at st i)
+
+-- A state for as many clients as it has sessions.
+abbrev pub IsLiarState : LiarState → Type 0
+IsLiarState st = IsLiarStateFor (session_count st) st
 
 -- The liar is for this version of the wire and this number of clients.
 pub record IsFor (wire n : ℕ) (st : LiarState) : Type 0 where

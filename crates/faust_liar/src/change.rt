@@ -30,11 +30,11 @@ pub fn edited(reply: &Reply, edit: &Edit) -> Result<Reply, LiarError>
     requires edit { IsEditFor (length reply.now.proofs) edit.now }
     ensures { Makes result (edited_reply edit.now reply.now) }
 {
-    let edited = match edit {
-        Edit::C(k) => with_client(reply, *k)?,
-        Edit::V(k, t) => with_version(reply, retimed(*k, *t, &reply.version)?)?,
-        Edit::M(k) => with_version(reply, redigested(*k, &reply.version)?)?,
-        Edit::Ctag => with_version(reply, retagged(&reply.version)?)?,
+    match edit {
+        Edit::C(k) => Ok(with_client(reply, *k)?),
+        Edit::V(k, t) => Ok(with_version(reply, retimed(*k, *t, &reply.version)?)?),
+        Edit::M(k) => Ok(with_version(reply, redigested(*k, &reply.version)?)?),
+        Edit::Ctag => Ok(with_version(reply, retagged(&reply.version)?)?),
         Edit::Add(k, kind, j) => {
             let tuple = Tuple {
                 client: *k,
@@ -42,21 +42,20 @@ pub fn edited(reply: &Reply, edit: &Edit) -> Result<Reply, LiarError>
                 register: *j,
                 tag: [0; 32],
             };
-            with_pending(reply, added(tuple, &reply.pending)?)?
+            Ok(with_pending(reply, added(tuple, &reply.pending)?)?)
         }
-        Edit::DropTuple(q) => with_pending(reply, dropped(*q, &reply.pending)?)?,
-        Edit::Swap(q) => with_pending(reply, swapped(*q, &reply.pending)?)?,
-        Edit::Ltag(q) => with_pending(reply, tag_flipped(*q, &reply.pending)?)?,
-        Edit::Proof(k) => with_proofs(reply, proof_flipped(*k, &reply.proofs)?)?,
-        Edit::Noproof(k) => with_proofs(reply, proof_removed(*k, &reply.proofs)?)?,
-        Edit::Jv(k, time) => with_read(reply, jv(*k, *time, &reply.read)?)?,
-        Edit::Jtag => with_read(reply, jtag(&reply.read)?)?,
-        Edit::T(time) => with_read(reply, t(*time, &reply.read)?)?,
-        Edit::Value(bytes) => with_read(reply, value(bytes, &reply.read)?)?,
-        Edit::Dtag => with_read(reply, dtag(&reply.read)?)?,
-        Edit::Unread => without_read(reply)?,
-    };
-    Ok(edited)
+        Edit::DropTuple(q) => Ok(with_pending(reply, dropped(*q, &reply.pending)?)?),
+        Edit::Swap(q) => Ok(with_pending(reply, swapped(*q, &reply.pending)?)?),
+        Edit::Ltag(q) => Ok(with_pending(reply, tag_flipped(*q, &reply.pending)?)?),
+        Edit::Proof(k) => Ok(with_proofs(reply, proof_flipped(*k, &reply.proofs)?)?),
+        Edit::Noproof(k) => Ok(with_proofs(reply, proof_removed(*k, &reply.proofs)?)?),
+        Edit::Jv(k, time) => Ok(with_read(reply, jv(*k, *time, &reply.read)?)?),
+        Edit::Jtag => Ok(with_read(reply, jtag(&reply.read)?)?),
+        Edit::T(time) => Ok(with_read(reply, t(*time, &reply.read)?)?),
+        Edit::Value(bytes) => Ok(with_read(reply, value(bytes, &reply.read)?)?),
+        Edit::Dtag => Ok(with_read(reply, dtag(&reply.read)?)?),
+        Edit::Unread => without_read(reply),
+    }
 }
 
 /// The reply with client k for c.

@@ -111,12 +111,24 @@ fn with_read_signed(reply: Reply, key: &[u8]) -> Result<Reply, OutOfMemory>
     ensures { IfOk result (λ signed. signed ≡ read_signed key.now reply) }
 {
     let alloc = reply.proofs.allocator();
-    let mut signed = reply;
-    signed.read = match signed.read {
+    let Reply {
+        c,
+        version,
+        pending,
+        proofs,
+        read,
+    } = reply;
+    let read = match read {
         Some(part) => Some(part_signed(alloc, part, key)?),
         None => None,
     };
-    Ok(signed)
+    Ok(Reply {
+        c,
+        version,
+        pending,
+        proofs,
+        read,
+    })
 }
 
 fn part_signed(alloc: Global, part: ReadPart, key: &[u8]) -> Result<ReadPart, OutOfMemory>
@@ -138,23 +150,43 @@ fn part_signed(alloc: Global, part: ReadPart, key: &[u8]) -> Result<ReadPart, Ou
 fn with_read_stored(reply: Reply, key: &[u8]) -> Reply
     ensures { result ≡ read_stored key.now reply }
 {
-    let mut stored = reply;
-    stored.read = match stored.read {
+    let Reply {
+        c,
+        version,
+        pending,
+        proofs,
+        read,
+    } = reply;
+    let read = match read {
         Some(part) => Some(part_stored(part, key)),
         None => None,
     };
-    stored
+    Reply {
+        c,
+        version,
+        pending,
+        proofs,
+        read,
+    }
 }
 
 fn part_stored(part: ReadPart, key: &[u8]) -> ReadPart
     ensures { result ≡ part_stored key.now part }
 {
-    let mut stored = part;
-    stored.mem = match stored.mem {
-        Some(mem) => Some(stored_anew(mem, stored.register, key)),
+    let ReadPart {
+        register,
+        version,
+        mem,
+    } = part;
+    let mem = match mem {
+        Some(mem) => Some(stored_anew(mem, register, key)),
         None => None,
     };
-    stored
+    ReadPart {
+        register,
+        version,
+        mem,
+    }
 }
 
 /// The version with the commit tag of its maker made anew.

@@ -188,7 +188,7 @@ impl Liar {
         requires more { (session_at self.old i).taken < length (session_at self.old i).replies }
         ensures { self.new ≡ one_taken self.old i }
     {
-        self.sessions[usize::from(i) - 1].taken += 1;
+        self.sessions[usize::from(i) - 1].take_one();
     }
 }
 

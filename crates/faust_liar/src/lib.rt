@@ -26,4 +26,3 @@ mod versions;
 
 pub use error::LiarError;
 pub use liar::{Liar, MAX_BRANCHES};
-pub use session::Session;

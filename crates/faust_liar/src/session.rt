@@ -1,6 +1,7 @@
-ghost use Rattle.std.specs.Prelude.{◌≡◌, ◌++◌, OnOk, OnErr, option_copied};
+ghost use Rattle.std.specs.Prelude.{◌≡◌, ◌+◌, ◌<◌, ◌++◌, length, OnOk, OnErr, option_copied};
 ghost use Rattle.faust_types.specs.Clients.{IsClient};
 ghost use Rattle.faust_server.specs.Rows.{client_count};
+ghost use Rattle.faust_server.specs.States.{IsState};
 ghost use Rattle.faust_liar.specs.Branches.{handled};
 ghost use Rattle.faust_liar.specs.InRange.{IsForServer};
 ghost use Rattle.faust_liar.specs.Lies.{first_session, next_of, nth, queued, received};
@@ -40,6 +41,15 @@ impl Session {
         self.replies.as_slice().get(self.taken)
     }
 
+    /// Takes the next reply out of the queue, of which there is one.
+    pub fn take_one(&mut self)
+        requires { self.old.taken < length self.old.replies }
+        ensures { self.new ≡ record self.old { taken = self.old.taken + 1 } }
+    {
+        prove!(self.taken < self.replies.len());
+        self.taken += 1;
+    }
+
     /// A message of client i arrives at its branch. A place for it is made before the branch moves.
     pub fn receive(
         &mut self,
@@ -47,6 +57,7 @@ impl Session {
         i: u8,
         message: Message,
     ) -> Result<(), OutOfMemory>
+        requires state { IsState branch.old }
         requires client { IsClient (client_count branch.old) i }
         requires message { IsForServer (client_count branch.old) i message }
         ensures session { OnOk result (self.new ≡ received self.old message (handled branch.old i message).reply) }
@@ -70,6 +81,7 @@ impl Session {
     }
 
     fn answer(&mut self, branch: &mut Server, i: u8, message: &Message) -> Result<(), OutOfMemory>
+        requires state { IsState branch.old }
         requires client { IsClient (client_count branch.old) i }
         requires message { IsForServer (client_count branch.old) i message.now }
         ensures session { OnOk result (self.new ≡ record self.old { replies = self.old.replies ++ queued (handled branch.old i message.now).reply }) }
