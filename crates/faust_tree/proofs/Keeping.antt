@@ -46,7 +46,8 @@ keyed under client t = record { under = under; client = client; t = t }
 child-same : (x y : Child) → x.under ≡ y.under → x.client ≡ y.client → x.t ≡ y.t → x ≡ y
 unfolding keyed
 child-same x y under client t =
-    ap (λ (u : Option ℕ). keyed u x.client x.t) under ∙ ap (λ (k : ℕ). keyed y.under k x.t) client ∙ ap (λ (k : ℕ). keyed y.under y.client k) t
+    ap (λ (u : Option ℕ). keyed u x.client x.t) under ∙ ap (λ (k : ℕ). keyed y.under k x.t) client
+    ∙ ap (λ (k : ℕ). keyed y.under y.client k) t
 
 same-child : (x y : Child) → is_eq (child_order x y) ≡ true → x ≡ y
 same-child x y h =
@@ -74,7 +75,8 @@ slot-there : (slots : List Slot) (find : Child → Option ℕ) (a : ℕ) (slot :
     → IsSlotAt (nodes_of slots) a slot
 slot-there slots find a slot kept h =
     let is = kept.slots_are a slot h in
-    record { there = node-at slots a slot h; slot_is = is; path_is = path-at (nodes_of slots) a slot.node (node-at slots a slot h) is.earlier }
+    let there = node-at slots a slot h in
+    record { there = there; slot_is = is; path_is = path-at (nodes_of slots) a slot.node there is.earlier }
 
 -- a path has as many names as the depth says
 pub depth-some : (tree : List Node) (a : ℕ) (slot : Slot) → IsSlotAt tree a slot → 1 ≤ slot.depth

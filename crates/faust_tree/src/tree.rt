@@ -97,6 +97,7 @@ impl Tree {
         ensures node { slice_get self.now a ≡ Some result }
         ensures earlier { IfSome result.under (λ above. above < a) }
         ensures path { path_of self.now a ≡ path_under self.now result.under ++ result.name ∷ [] }
+        ensures tree { IsTree self.now }
     {
         self.slots[a as usize].node
     }
