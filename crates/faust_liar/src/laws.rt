@@ -1,11 +1,15 @@
 //! What the definitions of `specs/` keep. Each function has an empty body, and its contract is the law.
-ghost use Rattle.std.specs.Prelude.{◌≡◌, ℕ, Ok};
+ghost use Rattle.std.specs.Prelude.{◌≡◌, ℕ, List, Option, Some, Ok};
 ghost use Rattle.faust_types.specs.Clients.{IsClient};
-ghost use Rattle.faust_types.specs.Ranges.{IsSubmitFor, IsCommitFor};
+ghost use Rattle.faust_types.specs.Ranges.{IsSubmitFor, IsCommitFor, IsReplyFor};
 ghost use Rattle.faust_types.specs.declared.message.Submit.{Submit};
+ghost use Rattle.faust_types.specs.declared.message.Reply.{Reply};
 ghost use Rattle.faust_types.specs.declared.message.Commit.{Commit};
 ghost use Rattle.faust_server.specs.Rows.{State, Served, committed, submitted};
 ghost use Rattle.faust_server.specs.States.{IsStateFor};
+ghost use Rattle.faust_script.specs.InRange.{IsEditFor};
+ghost use Rattle.faust_script.specs.declared.edit.Edit.{Edit};
+ghost use Rattle.faust_liar.specs.Edits.{lied_reply};
 ghost use Rattle.faust_liar.specs.Branches.{after_commit, answered, turn_set, uncommitted_at};
 ghost use Rattle.faust_liar.specs.InRange.{IsBehind};
 
@@ -24,4 +28,10 @@ pub fn in_turn_branches_are_honest()
         submitted st i m ≡ Ok given → given ≡ answered st i m }
     ensures commit { (n : ℕ) (st after : State) (i : ℕ) (m : Commit) → IsStateFor n st → IsClient n i → IsCommitFor n m →
         committed st i m ≡ Ok after → after ≡ after_commit st i m }
+{}
+
+/// What an edit makes of a reply in range, forged or not, is in range too: it has a spelling.
+pub fn lies_are_in_range()
+    ensures { (n : ℕ) (key : Option (List ℕ)) (edit : Edit) (reply made : Reply) → IsReplyFor n reply → IsEditFor n edit →
+        lied_reply key edit reply ≡ Some made → IsReplyFor n made }
 {}
