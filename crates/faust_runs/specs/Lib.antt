@@ -1,0 +1,4 @@
+pub mod Histories
+pub mod ForkViews
+pub mod Ledgers
+pub mod Sound
