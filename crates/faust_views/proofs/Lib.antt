@@ -1,0 +1,9 @@
+pub mod Keyed
+pub mod Replies
+pub mod Numbered
+pub mod Growing
+pub mod EndsFound
+pub mod Noting
+pub mod Seeing
+pub mod Forested
+pub mod Linear
