@@ -1,0 +1,9 @@
+pub mod Audited
+pub mod Watching
+pub mod Tables
+pub mod Passing
+pub mod Departure
+pub mod Findings
+pub mod Meetings
+pub mod Owing
+pub mod Completing

@@ -1,0 +1,112 @@
+ghost use Rattle.std.specs.Prelude.{◌≡◌, length, is_none, is_some, IfOk};
+ghost use Rattle.faust_record.specs.Runs.{arriving};
+ghost use Rattle.faust_record.specs.Operations.{started_among, started_in};
+ghost use Rattle.faust_audit.specs.Findings.{fact_of, facts_of, findings_of};
+
+use crate::departing::departure;
+use crate::ordering::order;
+use crate::run_entry::entry_at;
+use faust_record::{Entry, Fact, Facts, Findings, Input, RunRecord, Views};
+use faust_types::{Answer, Cut, OutOfMemory};
+use std::alloc::Global;
+
+/// All that a report of a run shows, beside the lists of operations that clients saw, which are handed in. The order
+/// stands there also where a reply departed.
+#[tactic(auto, unfolding(crate::specs::Findings::findings_of))]
+pub fn findings(alloc: Global, rec: &RunRecord, views: Views) -> Result<Findings, OutOfMemory>
+    ensures { IfOk result (λ found. found ≡ findings_of rec.now views) }
+{
+    Ok(Findings {
+        clients: rec.config().clients,
+        entries: rec.len(),
+        begun: begun_count(rec),
+        facts: facts(alloc, rec)?,
+        views,
+        departure: departure(alloc, rec)?,
+        order: order(alloc, rec)?,
+    })
+}
+
+/// How many operations began, by users or by ticks.
+fn begun_count(rec: &RunRecord) -> u64
+    ensures { result ≡ length (started_among rec.now.entries) }
+{
+    let mut begun = 0;
+    for q in 0..rec.len() {
+        if begins(entry_at(rec, q)) {
+            begun += 1;
+        }
+    }
+    begun
+}
+
+/// Whether an operation begins in an entry.
+fn begins(entry: &Entry) -> bool
+    ensures { result ≡ is_some (started_in entry.now) }
+{
+    match &entry.input {
+        Input::Write(_) | Input::Read(_) => true,
+        Input::Tick(_) => entry.outcome.began.is_some(),
+        Input::Reply(_) | Input::Peer(_) | Input::Arrive(_) => false,
+    }
+}
+
+/// One fact for each entry that isn't an arrival.
+fn facts(alloc: Global, rec: &RunRecord) -> Result<Facts, OutOfMemory>
+    ensures { IfOk result (λ facts. facts ≡ facts_of rec.now.entries) }
+{
+    let mut facts = Facts::new(alloc);
+    for q in 0..rec.len() {
+        let entry = entry_at(rec, q);
+        if is_act(entry) {
+            facts.push(fact_of(entry)?)?;
+        }
+    }
+    Ok(facts)
+}
+
+/// Whether it isn't an arrival.
+fn is_act(entry: &Entry) -> bool
+    ensures { result ≡ is_none (arriving entry.now.input) }
+{
+    match &entry.input {
+        Input::Arrive(_) => false,
+        Input::Write(_) | Input::Read(_) | Input::Reply(_) | Input::Peer(_) | Input::Tick(_) => {
+            true
+        }
+    }
+}
+
+/// What an entry gave its client.
+fn fact_of(entry: &Entry) -> Result<Fact, OutOfMemory>
+    ensures { IfOk result (λ fact. fact ≡ fact_of entry.now) }
+{
+    let outcome = &entry.outcome;
+    Ok(Fact {
+        entry: entry.number,
+        client: entry.client,
+        done: copy_of_answer(&outcome.answer)?,
+        cut: copy_of_cut(&outcome.cut)?,
+        probed: outcome.probed.copy()?,
+        dummy: outcome.began,
+        notice: outcome.notice,
+    })
+}
+
+fn copy_of_answer(answer: &Option<Answer>) -> Result<Option<Answer>, OutOfMemory>
+    ensures { IfOk result (λ copy. copy ≡ answer.now) }
+{
+    match answer {
+        None => Ok(None),
+        Some(answer) => Ok(Some(answer.copy()?)),
+    }
+}
+
+fn copy_of_cut(cut: &Option<Cut>) -> Result<Option<Cut>, OutOfMemory>
+    ensures { IfOk result (λ copy. copy ≡ cut.now) }
+{
+    match cut {
+        None => Ok(None),
+        Some(cut) => Ok(Some(cut.copy()?)),
+    }
+}

@@ -1,0 +1,94 @@
+//! An input that was hashed, with its digest.
+ghost use Rattle.std.specs.Prelude.{◌≡◌, IfOk};
+ghost use Rattle.faust_hash.specs.Chain.{chain_input, input_digest, value_input};
+
+use faust_hash::{input_digest, value_digest};
+use faust_types::{Bytes, Digest, OutOfMemory, Sequence};
+use std::alloc::Global;
+use std::marker::Model;
+
+// The bytes that the hashed inputs of a chain and of a value begin with.
+const CHAIN: u8 = 0x10;
+
+const VALUE: u8 = 0x11;
+
+/// An input that was hashed, and its digest, so that nobody hashes it once more. Clauses see the input.
+#[derive(Debug, Drop)]
+pub struct Hashed {
+    input: Bytes,
+    digest: Digest,
+}
+
+impl Model for Hashed {
+    ghost use Rattle.std.specs.Prelude.{◌≡◌, ℕ, List};
+    ghost use Rattle.faust_hash.specs.Chain.{input_digest};
+
+    ghost Value = { List ℕ };
+
+    ghost view = { λ hashed. hashed.input };
+
+    ghost invariant = { λ hashed. hashed.digest ≡ input_digest hashed.input };
+}
+
+impl Hashed {
+    /// An input whose digest is known.
+    pub fn new(input: Bytes, digest: Digest) -> Hashed
+        requires { digest ≡ input_digest input }
+        ensures { result ≡ input }
+    {
+        Hashed { input, digest }
+    }
+
+    /// An input, which is hashed.
+    pub fn of(input: Bytes) -> Hashed
+        ensures { result ≡ input }
+    {
+        let digest = input_digest(input.as_slice());
+        Hashed { input, digest }
+    }
+
+    /// The input.
+    pub fn input(&self) -> &Bytes
+        ensures { result.now ≡ self.now }
+    {
+        &self.input
+    }
+
+    /// Its digest.
+    pub fn digest(&self) -> &Digest
+        ensures { result.now ≡ input_digest self.now }
+    {
+        &self.digest
+    }
+}
+
+/// The input of the digest of a value.
+#[tactic(auto, unfolding(faust_hash::specs::Chain::value_digest_of, faust_hash::specs::Chain::input_digest))]
+pub fn value_hashed(alloc: Global, value: &[u8]) -> Result<Hashed, OutOfMemory>
+    ensures { IfOk result (λ hashed. hashed ≡ value_input value.now) }
+{
+    let input = value_input(alloc, value)?;
+    Ok(Hashed::new(input, value_digest(value)))
+}
+
+fn value_input(alloc: Global, value: &[u8]) -> Result<Bytes, OutOfMemory>
+    ensures { IfOk result (λ input. input ≡ value_input value.now) }
+{
+    let mut input = Sequence::new(alloc);
+    input.push(VALUE)?;
+    input.append(value)?;
+    Ok(input)
+}
+
+/// The input of the digest of a chain with client k behind it.
+pub fn chain_input(alloc: Global, before: Option<Digest>, k: u8) -> Result<Bytes, OutOfMemory>
+    ensures { IfOk result (λ input. input ≡ chain_input before k) }
+{
+    let mut input = Sequence::new(alloc);
+    input.push(CHAIN)?;
+    if let Some(digest) = before {
+        input.append(&digest)?;
+    }
+    input.push(k)?;
+    Ok(input)
+}
