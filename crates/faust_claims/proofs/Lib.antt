@@ -1,0 +1,2 @@
+-- Each way in which an entry brings a version.
+pub mod Bringing
