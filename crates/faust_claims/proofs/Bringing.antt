@@ -1,7 +1,8 @@
 -- Each way in which an entry brings a version.
 use Rattle.std.proofs.Common.{◌≡◌, true, List, ◌∷◌, ◌++◌, Option, Some, ap, ◌∙◌, subst, inl, inr}
 use Rattle.std.proofs.lemmas.Bool.{false_from_ne_true, or_cases}
-use Rattle.faust_types.specs.Versions.{Vector, is_at_most, is_comparable}
+use Rattle.faust_types.specs.Versions.{IsOrder, Vector, is_at_most, is_comparable}
+use Rattle.faust_types.specs.declared.version.Compared.TheVariants.{Apart}
 use Rattle.faust_types.specs.declared.config.Config.{Config}
 use Rattle.faust_types.specs.declared.message.PeerMessage.{PeerMessage}
 use Rattle.faust_types.specs.declared.message.Reply.{Reply}
@@ -13,26 +14,26 @@ use Rattle.faust_record.specs.Entries.{event_of}
 use Rattle.faust_record.specs.Runs.{IsRun}
 use Rattle.faust_record.specs.declared.entry.Entry.{Entry}
 use Rattle.faust_premises.specs.Premises.{IsClean}
-use Rattle.faust_audit.specs.Meetings.{AreApart, Brings, BringsReply, Holds, MeetIncomparable, by_message, by_reply, holder, next_version, version_of_c, version_of_j}
+use Rattle.faust_audit.specs.Meetings.{Brings, BringsReply, Holds, MeetIncomparable, by_message, by_reply, holder, next_version, version_of_c, version_of_j}
 use Rattle.faust_held.specs.Held.{GivesNotice, HadNoNotice, IsApartFromHeld}
 use Rattle.faust_held.proofs.Meeting.{message-meets, next-meets, part-meets, version-meets}
 
 -- two versions that are apart aren't comparable
-apart-not : (v w : Vector) → AreApart v w → is_comparable v w ≡ true → ⊥
+apart-not : (v w : Vector) → IsOrder Apart v w → is_comparable v w ≡ true → ⊥
 apart-not v w h holds = elim (or_cases (is_at_most v w) (is_at_most w v) holds) [
-  | inl most ↦ h.not_at_most ((is_at_most-means v w).0 most)
-  | inr least ↦ h.not_at_least ((is_at_most-means w v).0 least)
+  | inl most ↦ h.0 ((is_at_most-means v w).0 most)
+  | inr least ↦ h.1 ((is_at_most-means w v).0 least)
 ]
 
 apart-held : (config : Config) (before : List Entry) (entry : Entry) (brought held : Vector)
-    → Holds config.clients (holder config before entry) held → AreApart brought held → IsApartFromHeld config before entry brought
+    → Holds config.clients (holder config before entry) held → IsOrder Apart brought held → IsApartFromHeld config before entry brought
 apart-held config before entry brought held h apart =
     let st : Client = holder config before entry in
     record {
       k = h.k;
       client = h.is_client;
       apart = false_from_ne_true (is_comparable brought (version_at st h.k))
-          (apart-not brought (version_at st h.k) (subst (λ (v : Vector). AreApart brought v) h.is_held apart));
+          (apart-not brought (version_at st h.k) (subst (λ (v : Vector). IsOrder Apart brought v) h.is_held apart));
     }
 
 reply-noticed : (config : Config) (front rest : List Entry) (entry : Entry) (reply : Reply) (version : Vector)

