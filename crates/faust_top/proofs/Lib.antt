@@ -1,8 +1,5 @@
-pub mod Reading
-pub mod WriteLine
-pub mod Lines
-pub mod History
-pub mod Played
-pub mod Answering
-pub mod Words
-pub mod Order
+mod Words
+mod OutputLaws
+mod ReadRuns
+mod Promising
+mod Answering

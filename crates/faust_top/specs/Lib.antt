@@ -1,5 +1,4 @@
+pub mod Texts
+pub mod Headline
 pub mod Answer
-pub mod Script
-pub mod Report
-pub mod Linear
-pub mod Machine
+pub mod Output

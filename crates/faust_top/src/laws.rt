@@ -1,12 +1,11 @@
 //! What the definitions of `specs/` say together. The function has an empty body, and its contract is the law.
-ghost use Rattle.std.specs.Prelude.{◌≡◌, List, [], flat_map};
-ghost use Rattle.faust_top.specs.Script.{CanBePlayed};
-ghost use Rattle.faust_top.specs.Report.{order_items};
-ghost use Rattle.faust_top.specs.Linear.{IsLinearization, order_of, printed};
-ghost use Rattle.faust_top.specs.declared.script.Event.{Event};
+ghost use Rattle.std.specs.Prelude.{◌≡◌, ℕ, List};
+ghost use Rattle.faust_top.specs.Answer.{IsTextFor};
+ghost use Rattle.faust_types.specs.declared.status.Status.{Status};
 
-/// The order line prints an order of operations that is a linearization of the writes of the run.
-pub fn order_is_a_linearization()
-    ensures items { (events : List Event) → order_items [] events ≡ flat_map printed (order_of events) }
-    ensures order { (events : List Event) → CanBePlayed events → IsLinearization events (order_of events) }
+/// Each input has one text, at one status. So each status comes exactly where its case holds.
+pub fn each_input_has_one_text()
+    ensures some { (input : List ℕ) → (status : Status) × (text : List ℕ) × IsTextFor input status text }
+    ensures one { (input : List ℕ) (status other : Status) (text another : List ℕ) → IsTextFor input status text → IsTextFor input other another
+        → (status ≡ other) × (text ≡ another) }
 {}

@@ -1,20 +1,16 @@
-// One call from bytes to bytes: `run` reads a script of honest writes by two clients from a source, plays it on
-// clients and a server, and writes the report of the run to a sink.
+// One call from bytes to bytes: `run` reads a script from a source, plays it on clients and a server that lies by the
+// script, judges the run, and writes the report of a clean run to a sink, or why there is none.
 //
-// `specs/Answer.antt` comes first: what each status promises. `specs/Script.antt` says which inputs have the
-// form, and which events can be played; `specs/Report.antt` reads the report off the list of events, and
-// `specs/Linear.antt` says that the order it prints is a linearization. None of these knows the machine that
-// plays: `specs/Machine.antt` says what its steps do, and that is no part of what `run` promises.
+// `specs/Answer.antt` comes first: what each status promises. `specs/Texts.antt` has the lines that are no report.
+// `specs/Output.antt` says the same of an input as one function, and helps the proofs.
+//
+// What a script is, how it is played, when a run is clean and what a report says are the business of the crates below:
+// `parsed`, `played`, `premises_of`, `findings_of` and `report_text`.
 #![tactic(auto)]
 
 pub mod laws;
-mod machine;
-mod mail;
-mod party;
-mod refusal;
-mod report;
-mod script;
-mod seen;
+mod lines;
+mod output;
 #[cfg(test)]
 mod tests;
 mod top;

@@ -1,24 +1,21 @@
-ghost use Rattle.std.specs.Prelude.{◌≡◌, ◌∷◌, [], ℕ, List, ◌↔◌, IsTrue, IfOk, IfErr, map, string_bytes};
-ghost use Rattle.faust_top.specs.Script.{HasForm};
-ghost use Rattle.faust_top.specs.Report.{report_text};
+ghost use Rattle.std.specs.Prelude.{◌↔◌, IsTrue, map, string_bytes};
 ghost use Rattle.faust_top.specs.Answer.{AreScriptWords, EndsWriting, IsAnswer};
-ghost use Rattle.faust_top.specs.declared.script.Event.{Event};
-ghost use Rattle.faust_top.specs.declared.refusal.Refusal.TheVariants.{Form};
 
-use crate::refusal::Refusal;
-use crate::report::report;
-use crate::script::{MAX_INPUT_LEN, read_events};
+use crate::output::script_output;
 use faust_io::{ReadError, Sink, Source, read_whole, write_whole};
-use faust_types::Status;
+use faust_types::{OutOfMemory, Status};
 use std::alloc::Global;
+
+/// The most bytes of an input.
+const MAX_INPUT_LEN: usize = 1_048_576;
 
 const USAGE: &[u8] = b"usage: faust script\n";
 
-const REFUSAL: &[u8] = b"refused: line 0: form\n";
+const TOO_LONG: &[u8] = b"refused: line 0: input\n";
 
-/// Reads a script from the source, plays it and writes its report to the sink. `Usage` comes only for other
-/// words than `script`, `Refused` only where the input hasn't the form, `ReadFault` and `WriteFault` only where
-/// the count of faults rose. So an input of the form gets its report, unless a fault or want of memory comes.
+/// Reads a script from the source, plays it, and writes the report of its run to the sink. `Usage` comes exactly for
+/// other words than `script`, `Refused` exactly where the input is too long or a line of it is refused, `Premise`
+/// exactly where its run isn't clean, and `ReadFault` and `WriteFault` only where the count of faults rose.
 pub fn run<S: Source, K: Sink>(
     alloc: Global,
     words: &[String],
@@ -41,14 +38,13 @@ pub fn run<S: Source, K: Sink>(
     }
     let input = match read_whole(alloc, source, MAX_INPUT_LEN) {
         Ok(input) => input,
-        Err(ReadError::TooLong) => return written(sink, REFUSAL, Status::Refused),
+        Err(ReadError::TooLong) => return written(sink, TOO_LONG, Status::Refused),
         Err(ReadError::Failed) => return Status::ReadFault,
         Err(ReadError::OutOfMemory) => return Status::OutOfMemory,
     };
-    match answer(alloc, input.as_slice()) {
-        Ok(text) => written(sink, text.as_bytes(), Status::Done),
-        Err(Refusal::Form) => written(sink, REFUSAL, Status::Refused),
-        Err(Refusal::OutOfMemory) => Status::OutOfMemory,
+    match script_output(alloc, input.as_slice()) {
+        Ok(output) => written(sink, output.text.as_slice(), output.status),
+        Err(OutOfMemory) => Status::OutOfMemory,
     }
 }
 
@@ -60,15 +56,6 @@ fn are_script_words(words: &[String]) -> bool
         [word] => word.as_str() == "script",
         _ => false,
     }
-}
-
-/// The report of the events that the input has. `Form` comes exactly where it hasn't the form.
-fn answer(alloc: Global, input: &[u8]) -> Result<String, Refusal>
-    ensures text { IfOk result (λ text. (events : List Event) × (string_bytes text ≡ report_text events) × HasForm input.now events) }
-    ensures form { IfErr result (λ refusal. refusal ≡ Form → (events : List Event) → HasForm input.now events → ⊥) }
-{
-    let events = read_events(alloc, input)?;
-    report(alloc, events.as_slice())
 }
 
 /// Writes the text of a status, and answers that status, or `WriteFault` where a write failed.

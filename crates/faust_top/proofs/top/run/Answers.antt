@@ -1,13 +1,16 @@
-use Rattle.std.proofs.Common.{◌≡◌, ℕ, ◌<◌, List, length, refl, sym, ap, subst, ◌∙◌, arith, Err}
-use Rattle.std.specs.Prelude.{string_bytes}
+use Rattle.std.proofs.Common.{◌≡◌, ℕ, List, refl, sym, ap, subst, ◌∙◌, Err}
 use Rattle.std.proofs.lemmas.Bool.{both_ways}
-use Rattle.faust_types.specs.declared.status.Status.TheVariants.{Done, Usage, Refused}
+use Rattle.faust_types.specs.declared.status.Status.TheVariants.{Usage, Refused}
 use Rattle.faust_io.specs.declared.failed.ReadError.{ReadError}
 use Rattle.faust_io.specs.Faults.{CountsError}
-use Rattle.faust_top.specs.declared.script.Event.{Event}
-use Rattle.faust_top.specs.Script.{HasForm}
-use Rattle.faust_top.specs.Answer.{EndsWriting, usage_text, refusal_text}
-use Rattle.faust_top.proofs.Answering.{answered, some_weaker}
+use Rattle.faust_script.specs.Parsing.{parsed}
+use Rattle.faust_top.specs.declared.output.Output.{Output}
+use Rattle.faust_top.specs.Answer.{IsTextFor}
+use Rattle.faust_top.specs.Output.{IsReadRun, output_of_script}
+use Rattle.faust_top.specs.Texts.{too_long_text, usage_text}
+use Rattle.faust_top.proofs.Answering.{answered, text_due, text_read, too_long_of}
+use Rattle.faust_top.proofs.OutputLaws.{input_has}
+use Rattle.faust_top.proofs.Promising.{promised}
 use Rattle.faust_top.proofs.top.run.Goals as goal
 
 pub returns-then-not-are_script_words : goal.returns-then-not-are_script_words
@@ -18,43 +21,30 @@ returns-then-not-are_script_words g c =
 pub returns-in-Err-TooLong : goal.returns-in-Err-TooLong
 returns-in-Err-TooLong g c =
     let too_long = c.in-Err-TooLong.field-0-is in
-    answered _ _ Refused refusal_text c.written-in-Err-TooLong.result (
+    answered _ _ Refused too_long_text c.written-in-Err-TooLong.result (
       c.are_script_words.ensures.0 c.if-not-are_script_words.false,
-      refl,
-      some_weaker (g.S.Source.left c.args.source.now) (λ content. 1048576 < length content) (λ input. (events : List Event) → HasForm input events → ⊥)
-          (λ content longer events form. absurd (omega (arith, longer, form.text.short)))
-          (c.in-Err-TooLong.ensures.too_long (ap Err too_long)),
+      too_long_of (g.S.Source.left c.args.source.now) (c.in-Err-TooLong.ensures.too_long (ap Err too_long)),
     )
     tt
     (subst (λ (e : ReadError). CountsError e (g.S.Source.faults c.args.source.now) (g.S.Source.faults c.read_whole.new.source)) too_long c.in-Err-TooLong.ensures.count)
     c.written-in-Err-TooLong.ensures
 
-pub returns-in-Ok-answer : goal.returns-in-Ok-answer
-returns-in-Ok-answer g c =
-    let report = c.in-Ok-answer.ensures.text in
+pub returns-in-Ok-script_output : goal.returns-in-Ok-script_output
+returns-in-Ok-script_output g c =
+    let input = c.in-Ok.input in
+    let output = c.in-Ok-script_output.output in
     let whole = c.in-Ok.ensures.whole in
-    answered _ _ Done (string_bytes c.in-Ok-answer.text) c.written-in-Ok-answer.result (
-      c.are_script_words.ensures.0 c.if-not-are_script_words.false,
-      (
-        report.0,
-        report.1,
-        report.2.playable,
-        some_weaker (g.S.Source.left c.args.source.now) (λ content. content ≡ c.in-Ok.input) (λ input. HasForm input report.0)
-            (λ content same. subst (λ (i : List ℕ). HasForm i report.0) (sym (same ∙ sym c.as_slice.ensures)) report.2)
-            whole.all,
-      ),
-    )
-    whole.at_end c.in-Ok.ensures.count
-    (subst (λ (t : List ℕ). EndsWriting Done t (g.K.Sink.held c.args.sink.now) (g.K.Sink.held c.written-in-Ok-answer.new.sink) (g.K.Sink.faults c.args.sink.now) (g.K.Sink.faults c.written-in-Ok-answer.new.sink) c.written-in-Ok-answer.result) c.as_bytes.ensures.value c.written-in-Ok-answer.ensures)
-
-pub returns-in-Err-Form : goal.returns-in-Err-Form
-returns-in-Err-Form g c =
-    answered _ _ Refused refusal_text c.written-in-Err-Form.result (
-      c.are_script_words.ensures.0 c.if-not-are_script_words.false,
-      refl,
-      some_weaker (g.S.Source.left c.args.source.now) (λ content. content ≡ c.in-Ok.input) (λ input. (events : List Event) → HasForm input events → ⊥)
-          (λ content same events form. c.in-Err-Form.ensures.form c.in-Err-Form.field-0-is events (subst (λ (i : List ℕ). HasForm i events) (same ∙ sym c.as_slice.ensures) form))
-          c.in-Ok.ensures.whole.all,
-    )
-    tt c.in-Ok.ensures.count
-    c.written-in-Err-Form.ensures
+    let same : output ≡ output_of_script (parsed input) =
+    c.in-Ok-script_output.ensures.output ∙ ap (λ bytes. output_of_script (parsed bytes)) c.as_slice.ensures in
+    let reads : IsReadRun input = subst (λ (bytes : List ℕ). IsReadRun bytes) c.as_slice.ensures c.in-Ok-script_output.ensures.is_run in
+    let has : IsTextFor input output.status output.text =
+    subst (λ (o : Output). IsTextFor input o.status o.text) (sym same) (input_has input c.in-Ok.ensures.within) in
+    let text = c.as_slice-in-Ok-script_output.result.now in
+    let is : IsTextFor input output.status text =
+    subst (λ (t : List ℕ). IsTextFor input output.status t) (sym c.as_slice-in-Ok-script_output.ensures) has in
+    answered _ _ output.status text c.written-in-Ok-script_output.result
+    (text_due _ _ output.status text (c.are_script_words.ensures.0 c.if-not-are_script_words.false)
+    (record { input = input; told = whole.all; text_is = is; promised = promised input reads }))
+    (text_read input _ _ output.status text is whole.at_end)
+    c.in-Ok.ensures.count
+    c.written-in-Ok-script_output.ensures

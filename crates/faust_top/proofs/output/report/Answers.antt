@@ -1,0 +1,15 @@
+use Rattle.std.proofs.Common.{◌≡◌, ℕ, List, IfOk, ap, ◌∙◌, subst}
+use Rattle.faust_types.specs.declared.operation.OpName.{OpName}
+use Rattle.faust_record.specs.declared.findings.Findings.{Findings}
+use Rattle.faust_audit.specs.Findings.{findings_of}
+use Rattle.faust_report.specs.Text.{report_text}
+use Rattle.faust_views.proofs.Linear.{views_are}
+use Rattle.faust_top.proofs.output.report.Goals as goal
+
+pub returns : goal.returns
+returns c =
+    let run = c.args.run.now in
+    let seen = views_are run c.in_ok-views.views c.in_ok-views.ensures.each in
+    let found = c.in_ok-findings.ensures ∙ ap (λ (views : List (List OpName)). findings_of run views) seen in
+    subst (λ (report : List ℕ). IfOk c.text.result (λ text. text ≡ report))
+    (ap (λ (findings : Findings). report_text findings) found) c.text.ensures
