@@ -32,8 +32,8 @@ pub enum Cause {
     Field,
     /// The number of an entry isn't the next one, or that of the last line isn't the number of entries.
     Order,
-    /// The event can't be played yet.
-    Later,
+    /// The bytes that arrive aren't the next message that the client sent.
+    Frame,
 }
 
 impl Cause {
@@ -55,7 +55,7 @@ impl Cause {
             Cause::Branch => "branch",
             Cause::Field => "field",
             Cause::Order => "order",
-            Cause::Later => "later",
+            Cause::Frame => "frame",
         }
     }
 }
