@@ -1,5 +1,5 @@
 -- What is counted in a summary, and its lines together.
-use Rattle.std.proofs.Common.{◌≡◌, ℕ, suc, ◌+◌, true, false, cond, List, [], ◌∷◌, ◌++◌, sym, ap, ◌∙◌, append_assoc, append-nil, add-one, arith}
+use Rattle.std.proofs.Common.{◌≡◌, ℕ, ◌+◌, true, false, cond, List, [], ◌∷◌, ◌++◌, sym, ap, ◌∙◌, append_assoc, append-nil, add-one, arith}
 use Rattle.faust_text.specs.Lines.{ended_text}
 use Rattle.faust_record.specs.declared.findings.Fact.{Fact}
 use Rattle.faust_report.specs.Summary.{has_whole_cut, whole_cuts}

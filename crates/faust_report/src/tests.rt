@@ -1,4 +1,4 @@
-use crate::{body, summary, text};
+use crate::{body, json, summary, text};
 use faust_record::{Fact, Findings};
 use faust_types::{Answer, Kind, Names, Notice, OpName, Operation, OutOfMemory, Sequence};
 use std::alloc::Global;
@@ -121,6 +121,11 @@ fn texts_of_one_write(rt: HostRuntime) -> Result<(), Fail> {
     assert_eq!(rt;
         totals.as_slice(),
         b"sample seed 7 clients 2\nentries 4\noperations 1 completed 1\ndeparture none\nfailures 0\ncuts whole 1 of 2\nend\n".as_slice()
+    );
+    let object = json(rt.alloc(), &findings)?;
+    assert_eq!(rt;
+        object.as_slice(),
+        b"{\"clients\":2,\"cuts\":[{\"client\":1,\"cut\":[1,0],\"entry\":2}],\"departure\":null,\"done\":[\"1.1\"],\"entries\":4,\"failures\":[],\"order\":[\"1.1\"],\"views\":[[\"1.1\"],[]]}\n".as_slice()
     );
     Ok(())
 }
