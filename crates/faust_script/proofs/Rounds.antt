@@ -136,24 +136,15 @@ generated_counted seed n ops size =
     let rounds = length-append (round_of n 1) (round_of n 2) in
     omega (arith, whole, back, rounds, round_counted n 1, round_counted n 2, is.events_counted, size.from_one)
 
-bytes_each : (xs : List ℕ) → AllByRecursion (λ x. x < 256) xs → AreBytes xs
-bytes_each [] all i = lit< tt
-bytes_each (x ∷ xs) all zero = all.0
-bytes_each (x ∷ xs) all (suc i) = bytes_each xs all.1 i
-
 key_is : IsKey sample_key
-key_is = record {
-  not_empty = lit≤ tt;
-  sized = lit≤ tt;
-  bytes_each = bytes_each sample_key ((lit< tt, (lit< tt, (lit< tt, (lit< tt, (lit< tt, (lit< tt, (lit< tt, (lit< tt, (lit< tt, (lit< tt, (lit< tt, (lit< tt, (lit< tt, (lit< tt, (lit< tt, (lit< tt, tt)))))))))))))))));
-}
+key_is = record { not_empty = lit≤ tt; sized = lit≤ tt }
 
 pub generated_in_range : (seed n ops : ℕ) → IsSampleSize n ops → IsScript (generated seed n ops)
 unfolding generated drawn_events
 generated_in_range seed n ops size =
     let drawn : List Event = (after_steps n ops (beginning seed n) (step_count ops)).events in
     let is : IsUnderway n ops (step_count ops) (after_steps n ops (beginning seed n) (step_count ops)) = underway seed n ops (step_count ops) size (omega arith) in
-    let few : n * (n - 1) ≤ 32 * 31 = mul-le-mul (omega (arith, size.clients_count.at_most_32)) (omega (arith, size.clients_count.at_most_32)) in
+    let few : n * (n - 1) ≤ 32 * 31 = mul-le-mul {n₁ = n} {m₁ = n - 1} {n₂ = 32} {m₂ = 31} (omega (arith, size.clients_count.at_most_32)) (omega (arith, size.clients_count.at_most_32)) in
     record {
       format_known = inl (refl, refl);
       config_in_range = record {
