@@ -4,3 +4,5 @@ pub mod Parsing
 pub mod Scripts
 pub mod Refusals
 pub mod InRange
+pub mod Generated
+pub mod Stepping

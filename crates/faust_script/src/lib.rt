@@ -12,9 +12,11 @@
 mod edit;
 mod error;
 mod event;
+mod generator;
 mod laws;
 mod line;
 mod parser;
+mod progress;
 mod script;
 mod stage;
 mod word;
@@ -22,7 +24,11 @@ mod word;
 pub use edit::Edit;
 pub use error::ScriptError;
 pub use event::Event;
-pub use laws::{first_refused_lines, scripts_are_in_range, scripts_are_their_texts};
+pub use generator::generate;
+pub use laws::{
+    first_refused_lines, generated_scripts_are_in_range, scripts_are_in_range,
+    scripts_are_their_texts, steps_end_where_no_client_can_act,
+};
 pub use line::read_event;
 pub use parser::parse;
 pub use script::{Events, MAX_EVENTS, Script};

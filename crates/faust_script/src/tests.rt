@@ -5,6 +5,7 @@ use faust_types::{Bytes, OutOfMemory, Sequence};
 use std::process::Abort;
 
 mod accepted;
+mod generated;
 mod limits;
 mod places;
 mod refused;
