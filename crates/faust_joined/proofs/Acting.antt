@@ -40,7 +40,7 @@ use Rattle.faust_record.proofs.Own.{entries_of-own}
 use Rattle.faust_audit.specs.Departure.{Given, Line, given_to, is_due, line_of, times_of}
 use Rattle.faust_audit.specs.Findings.{name_in_order, order_among, submit_in}
 use Rattle.faust_audit.proofs.Gathering.{order-more}
-use Rattle.faust_joined.specs.Joined.{IsGrown, AreQuiet, IsClientJoined, IsInStep, IsJoined, IsOrderOf, IsQuiet}
+use Rattle.faust_joined.specs.Joined.{AreGivenOf, IsGrown, AreQuiet, IsClientJoined, IsInStep, IsJoined, IsOrderOf, IsQuiet}
 use Rattle.faust_joined.proofs.Beginning.{begun-in_step}
 use Rattle.faust_joined.proofs.Completing.{IsCompleting, completed-in_step, completing}
 use Rattle.faust_joined.proofs.Entering.{joined-one, joined-other}
@@ -240,6 +240,8 @@ acted-joined config world front e more sized client step act h line line_is serv
       quiet = quiet-one config front e h.arrived deed client refl h.quiet (λ message range has.
           deed-quiet config i st h.arrived deed message client mine.in_step.in_range fits mine.in_step.no_notice done.unbroken
           mine.in_step.within range has);
+      given = subst (λ (l : Line). AreGivenOf n world h.arrived h.handled l.given) (sym line_is)
+          (subst (AreGivenOf n world h.arrived h.handled) (sym given) h.given);
     } in
     record {
       joined = now;

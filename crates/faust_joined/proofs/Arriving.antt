@@ -4,7 +4,7 @@ use Rattle.std.specs.Prelude.{◌⊎◌, Result, Ok, Err, IsOkAnd, IfOk, slice_g
 use Rattle.std.proofs.lemmas.Bool.{cases_eq}
 use Rattle.std.proofs.lemmas.Option.{same_Some}
 use Rattle.faust_types.specs.Clients.{IsClient}
-use Rattle.faust_types.specs.Ranges.{IsReadPartFor, IsSubmitFor}
+use Rattle.faust_types.specs.Ranges.{IsCommitFor, IsReadPartFor, IsSubmitFor}
 use Rattle.faust_types.specs.Messages.{unmade}
 use Rattle.faust_types.specs.declared.config.Config.{Config}
 use Rattle.faust_types.specs.declared.operation.Kind.{Kind}
@@ -16,22 +16,24 @@ use Rattle.faust_types.specs.declared.message.ReadPart.{ReadPart}
 use Rattle.faust_types.specs.declared.message.Reply.{Reply}
 use Rattle.faust_lists.specs.Lists.{count, upto}
 use Rattle.faust_lists.specs.Walks.{IsVersionOf}
-use Rattle.faust_lists.proofs.Counts.{count-own, upto-here, upto-more}
+use Rattle.faust_lists.proofs.Counts.{count-le-cons, count-own, upto-here, upto-more}
 use Rattle.faust_lists.proofs.Fronts.{upto-tail}
-use Rattle.faust_server.specs.Rows.{State, Served, submitted, then_submitted, is_submit_in_turn, turn_at, version_at, served, out_of_turn, ridden, remembered, read_part}
+use Rattle.faust_server.specs.Rows.{State, Served, committed, submitted, then_submitted, is_submit_in_turn, turn_at, version_at, served, out_of_turn, ridden, remembered, read_part}
 use Rattle.faust_server.specs.States.{IsServedFor}
 use Rattle.faust_server.specs.declared.refusal.OutOfTurn.{OutOfTurn}
 use Rattle.faust_server.proofs.Rows.{submitted-in_range}
 use Rattle.faust_honest.specs.World.{World, submit_of}
 use Rattle.faust_honest.specs.Honest.{IsHonest, IsServedWell}
-use Rattle.faust_honest.proofs.Rides.{riding-well, submitted-well}
+use Rattle.faust_honest.proofs.Rides.{committed-well, riding-well, submitted-well}
+use Rattle.faust_forks.specs.Pairs.{checked}
 use Rattle.faust_agent.specs.State as held
 use Rattle.faust_agent.specs.State.{completed_count}
 use Rattle.faust_agent.specs.Deeds.{Sent, commits, submits}
 use Rattle.faust_agent.specs.declared.client.Client.{Client}
-use Rattle.faust_joined.specs.Joined.{IsCommitMade, IsInStep, IsReplyTo, IsSubmitDue, IsWithin, Lead, rides}
+use Rattle.faust_joined.specs.Joined.{AreOfHistory, IsCommitMade, IsInStep, IsReplyTo, IsSubmitDue, IsWithin, Lead, rides}
 use Rattle.faust_joined.proofs.Grown.{reply-more, within-more}
 use Rattle.faust_joined.proofs.Queues.{held-more, lead-more}
+use Rattle.faust_joined.proofs.Replying.{reply-of}
 
 -- what a row gives is one thing
 ok-or : {X E : Type 0} → X → Result X E → X
@@ -63,6 +65,25 @@ row-shown (Ok st) i m x is =
     alone-shown (is_submit_in_turn (turn_at st i) m.t) st i m (out_of_turn (turn_at st i) m.t) x is
 row-shown (Err refused) i m x is = absurd cc
 
+-- a row that is taken gives what the SUBMIT is served
+pub record IsServedBy (row : Result State OutOfTurn) (i : ℕ) (m : Submit) (x : Served) : Type 0 where
+  pub now : State
+  pub row_is : row ≡ Ok now
+  pub served_is : x ≡ served now i m
+
+alone-served : (b : Bool) (st : State) (i : ℕ) (m : Submit) (refused : OutOfTurn) (x : Served)
+    → (if b then Ok (served st i m) else Err refused) ≡ Ok x → x ≡ served st i m
+alone-served true st i m refused x row = sym (same_Ok (served st i m) x row)
+alone-served false st i m refused x row = absurd cc
+
+row-served : (row : Result State OutOfTurn) (i : ℕ) (m : Submit) (x : Served) → then_submitted row i m ≡ Ok x → IsServedBy row i m x
+row-served (Ok st) i m x is = record {
+  now = st;
+  row_is = refl;
+  served_is = alone-served (is_submit_in_turn (turn_at st i) m.t) st i m (out_of_turn (turn_at st i) m.t) x is;
+}
+row-served (Err refused) i m x is = absurd cc
+
 -- so it stands for a front of the history
 part-within : (n : ℕ) (world : World) (st : State) (arrived handled : List ℕ) (read : Option ReadPart) → IsHonest n world st arrived handled
     → IfSome read (IsReadPartFor n) → IfSome read (IsShown st.versions)
@@ -91,12 +112,29 @@ pub counted-with : (i : ℕ) (handled : List ℕ) (c : Option Commit) → count 
 counted-with i handled None = omega arith
 counted-with i handled (Some c) = omega (arith, count-own i i handled refl)
 
+-- the state in which a SUBMIT is served is honest
+ridden-honest : (n : ℕ) (world : World) (st now : State) (arrived handled : List ℕ) (i : ℕ) (c : Option Commit)
+    → IsHonest n world st arrived handled → IsClient n i → count i arrived ≡ count i handled + rides c
+    → IfSome c (IsCommitFor n) → IfSome c (IsCommitMade n world arrived i (count i arrived)) → ridden st i c ≡ Ok now
+    → IsHonest n world now arrived (handled_with i handled c)
+ridden-honest n world st now arrived handled i None honest client balanced range made row =
+    subst (λ (x : State). IsHonest n world x arrived handled) (same_Ok st now row) honest
+ridden-honest n world st now arrived handled i (Some c) honest client balanced range made row =
+    let taken = ok-and (λ (x : State). IsHonest n world x arrived (i ∷ handled)) (committed st i c)
+    (committed-well n world st arrived handled i c honest client range (omega (arith, balanced)) made.is_commit) in
+    subst (λ (x : State). IsHonest n world x arrived (i ∷ handled)) (same_Ok taken.0 now (sym taken.1 ∙ row)) taken.2
+
+pub taken-more : (i : ℕ) (handled : List ℕ) (c : Option Commit) (k : ℕ) → count k handled ≤ count k (handled_with i handled c)
+taken-more i handled None k = omega arith
+taken-more i handled (Some c) k = count-le-cons k i handled
+
 -- A SUBMIT that is due is served: the history grows, and the reply is right.
 pub record IsServedNext (n : ℕ) (world : World) (st : State) (arrived handled : List ℕ) (i : ℕ) (m : Submit) : Type 0 where
   pub served : Served
   pub row : submitted st i m ≡ Ok served
   pub honest : IsHonest n world served.state (i ∷ arrived) (handled_with i handled m.commit)
   pub reply_to : IsReplyTo n world (i ∷ arrived) i (suc (count i arrived)) served.reply
+  pub of_history : AreOfHistory n world (i ∷ arrived) (handled_with i handled m.commit) (checked served.reply)
 
 served-well : (n : ℕ) (world : World) (st : State) (arrived handled : List ℕ) (i : ℕ) (c : Option Commit) → IsHonest n world st arrived handled
     → IsClient n i → IsSubmitFor n (submit_of world i (suc (count i arrived)) c)
@@ -124,6 +162,11 @@ served-next config world st arrived handled i m honest client due =
     subst (λ (row : Result Served OutOfTurn). IfOk row (IsServedFor n)) well.1
     (submitted-in_range n st i m honest.in_range client due.in_range.0) in
     let shown : IfSome well.0.reply.read (IsShown well.0.state.versions) = row-shown (ridden st i m.commit) i m well.0 well.1 in
+    let after : List ℕ = handled_with i handled m.commit in
+    let by : IsServedBy (ridden st i m.commit) i m well.0 = row-served (ridden st i m.commit) i m well.0 well.1 in
+    let settled : IsHonest n world by.now arrived after =
+    ridden-honest n world st by.now arrived handled i m.commit honest client due.balanced due.in_range.0.commit_in_range due.rides_rightly
+    by.row_is in
     record {
       served = well.0;
       row = well.1;
@@ -136,6 +179,9 @@ served-next config world st arrived handled i m honest client due =
         read_within = part-within n world well.0.state (i ∷ arrived) (handled_with i handled m.commit) well.0.reply.read well.2.honest
             range.reply_in_range.read_in_range shown;
       };
+      of_history = subst (λ (x : Served). AreOfHistory n world (i ∷ arrived) after (checked x.reply)) (sym by.served_is)
+          (reply-of n world by.now arrived after i m settled
+          (subst (λ (x : Served). IsHonest n world x.state (i ∷ arrived) after) by.served_is well.2.honest) due.in_range.0.register_in_range);
     }
 
 le_cases : (a b : ℕ) → a ≤ b → (a < b) ⊎ (a ≡ b)

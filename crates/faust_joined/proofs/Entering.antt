@@ -26,7 +26,7 @@ use Rattle.faust_joined.specs.Joined.{IsClientJoined, IsInStep, IsQueued}
 use Rattle.faust_joined.proofs.Grown.{in_step-more}
 
 -- one more entry of a client
-started-one : (own : List Entry) (e : Entry)
+pub started-one : (own : List Entry) (e : Entry)
     → length (started_among (own ++ e ∷ [])) ≡ length (started_among own) + length (option_to_list (started_in e))
 started-one [] e =
     ap (λ (l : List Started). length l) (append-nil (option_to_list (started_in e))) ∙ omega arith

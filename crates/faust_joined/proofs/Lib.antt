@@ -9,6 +9,8 @@ pub mod Ticking
 pub mod Hearing
 -- What clients say to one another.
 pub mod Saying
+-- What the server replies.
+pub mod Replying
 -- What arrives at the server.
 pub mod Arriving
 -- One more entry.
@@ -22,5 +24,9 @@ pub mod Telling
 pub mod Running
 -- The order of arrival.
 pub mod Linear
+-- The versions that clients make.
+pub mod Comparing
 -- Tags that aren't forged.
 pub mod Unforged
+pub mod Making
+pub mod Clearing

@@ -528,7 +528,7 @@ completed-in-front front rest a x numbered found earlier =
 
 -- ---- a front of a run, and the whole
 
-none-front : (config : Config) (line : Line) (xs ys : List Entry) → first_departure_from config line (xs ++ ys) ≡ None
+pub none-front : (config : Config) (line : Line) (xs ys : List Entry) → first_departure_from config line (xs ++ ys) ≡ None
     → first_departure_from config line xs ≡ None
 none-front config line [] ys none = refl
 none-front config line (x ∷ xs) ys none =
@@ -553,12 +553,12 @@ well-both : (xs ys : List Entry) → AreWellGiven xs → AreWellGiven ys → Are
 well-both [] ys front back = back
 well-both (x ∷ xs) ys front back = (front.0, well-both xs ys front.1 back)
 
-record IsThrough (config : Config) (world : World) (front all : List Entry) : Type 0 where
-  early : IsKnown config world front
-  late : IsKnown config world all
-  on : IsTail early.joined.arrived late.joined.arrived
+pub record IsThrough (config : Config) (world : World) (front all : List Entry) : Type 0 where
+  pub early : IsKnown config world front
+  pub late : IsKnown config world all
+  pub on : IsTail early.joined.arrived late.joined.arrived
 
-through : (config : Config) (front rest : List Entry) → IsRun config (front ++ rest) → ArePeersMade config [] (front ++ rest)
+pub through : (config : Config) (front rest : List Entry) → IsRun config (front ++ rest) → ArePeersMade config [] (front ++ rest)
     → first_departure config (front ++ rest) ≡ None → IsThrough config (world_of config (front ++ rest)) front (front ++ rest)
 through config front rest run made none =
     let all : List Entry = front ++ rest in

@@ -76,10 +76,11 @@ first-joined config world sized =
         };
       };
       quiet = λ message range has. absurd has;
+      given = tt;
     }
 
 -- the last entry of a run
-last-client : (n : ℕ) (xs : List Entry) (e : Entry) → AreOfClients n (xs ++ e ∷ []) → IsClient n e.client
+pub last-client : (n : ℕ) (xs : List Entry) (e : Entry) → AreOfClients n (xs ++ e ∷ []) → IsClient n e.client
 last-client n [] e all = all.0
 last-client n (x ∷ xs) e all = last-client n xs e all.1
 

@@ -16,7 +16,7 @@ use Rattle.faust_wire.specs.Grammar.{commit_bytes, submit_bytes}
 use Rattle.faust_wire.specs.Reading.{message_of}
 use Rattle.faust_wire.proofs.Messages.{commit-read, submit-read}
 use Rattle.faust_lists.specs.Lists.{count}
-use Rattle.faust_lists.proofs.Counts.{count-other}
+use Rattle.faust_lists.proofs.Counts.{count-le-cons, count-other}
 use Rattle.faust_lists.proofs.Tails.{tail-refl}
 use Rattle.faust_names.specs.ForkViews.{listed}
 use Rattle.faust_names.specs.Histories.{named}
@@ -40,11 +40,12 @@ use Rattle.faust_audit.specs.Departure.{Line, first_line, given_to, line_at, lin
 use Rattle.faust_audit.proofs.Following.{given-other, given-own, line-append}
 use Rattle.faust_audit.specs.Findings.{as_submit, is_write, name_in_order, order_among, submit_in}
 use Rattle.faust_audit.proofs.Gathering.{order-more}
-use Rattle.faust_joined.specs.Joined.{IsGrown, is_named_in, IsClientJoined, IsInStep, IsJoined, IsSubmitDue}
+use Rattle.faust_joined.specs.Joined.{AreGivenOf, IsGrown, is_named_in, IsClientJoined, IsInStep, IsJoined, IsSubmitDue}
 use Rattle.faust_joined.proofs.Acting.{quiet-one}
-use Rattle.faust_joined.proofs.Arriving.{IsHead, IsServedNext, committed-in_step, handled_with, head-of, next-queued, ok-and, served-next, submitted-in_step}
+use Rattle.faust_joined.proofs.Arriving.{IsHead, IsServedNext, committed-in_step, handled_with, head-of, next-queued, ok-and, served-next, submitted-in_step, taken-more}
 use Rattle.faust_joined.proofs.Entering.{arrived-one, joined-more, joined-other}
 use Rattle.faust_joined.proofs.Grown.{quiet-more}
+use Rattle.faust_joined.proofs.Replying.{given-later, given-one}
 
 -- a client does nothing when its message arrives
 arrival-ignored : (config : Config) (k : ℕ) (st : Client) (input : Input) (message : List ℕ) → input ≡ inputs.Arrive message
@@ -169,6 +170,10 @@ submit-joined config world front e message sized client step input h m spelled f
           (sym line_is) each;
       quiet = quiet-one config front e now deeds.Ignores client (arrival-ignored config i (replay config i own) e.input message input)
           (λ said range has. quiet-more n h.arrived i said.peer (h.quiet said range has)) (λ said range has. absurd has);
+      given = subst (λ (l : Line). AreGivenOf n world now after l.given) (sym line_is)
+          (given-one n world now after before.given _
+          (given-later n world h.arrived h.handled now after before.given (inr (tail-refl h.arrived)) (taken-more i h.handled m.commit) h.given)
+          next.of_history);
     } in
     record {
       joined = joined;
@@ -219,6 +224,8 @@ commit-joined config world front e message sized client step input h c spelled f
           (sym line_is) each;
       quiet = quiet-one config front e h.arrived deeds.Ignores client (arrival-ignored config i (replay config i own) e.input message input)
           h.quiet (λ said range has. absurd has);
+      given = subst (λ (l : Line). AreGivenOf n world h.arrived after l.given) (sym line_is)
+          (given-later n world h.arrived h.handled h.arrived after before.given (tail-refl h.arrived) (λ k. count-le-cons k i h.handled) h.given);
     } in
     record {
       joined = joined;

@@ -255,7 +255,7 @@ replied-told config world front e later bytes next h on told is k client =
     ]
 
 -- one more entry that is no reply: to nobody was a reply handed
-none-handed : (config : Config) (front : List Entry) (e : Entry) (input : Input) → e.input ≡ input
+pub none-handed : (config : Config) (front : List Entry) (e : Entry) (input : Input) → e.input ≡ input
     → (line_at config (line_of config front) e.client input).handed ≡ (line_of config front).handed
     → (line_of config (front ++ e ∷ [])).handed ≡ (line_of config front).handed
 none-handed config front e input is same =
@@ -270,7 +270,7 @@ settled-handed : (line : Line) (row : Result State OutOfTurn) → (line_settled 
 settled-handed line (Ok state) = refl
 settled-handed line (Err refused) = refl
 
-told-handed : (line : Line) (i : ℕ) (message : Option Message) → (line_told line i message).handed ≡ line.handed
+pub told-handed : (line : Line) (i : ℕ) (message : Option Message) → (line_told line i message).handed ≡ line.handed
 told-handed line i None = refl
 told-handed line i (Some (messages.Submit m)) = served-handed line i (submitted line.server i m)
 told-handed line i (Some (messages.Reply m)) = refl

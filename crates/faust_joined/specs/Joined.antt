@@ -15,7 +15,8 @@ use Rattle.faust_types.specs.declared.message.Reply.{Reply}
 use Rattle.faust_types.specs.declared.message.Peer.{Peer}
 use Rattle.faust_types.specs.declared.message.Peer.TheVariants as peers
 use Rattle.faust_types.specs.declared.message.PeerMessage.{PeerMessage}
-use Rattle.faust_tags.specs.Bodies.{peer_body}
+use Rattle.faust_hash.specs.Chain.{chain_of}
+use Rattle.faust_tags.specs.Bodies.{commit_body, data_body, peer_body, proof_body, submit_body}
 use Rattle.faust_ustor.specs.Checks.{digest_of}
 use Rattle.faust_lists.specs.Lists.{count, upto, IsTail}
 use Rattle.faust_lists.specs.Names.{Has, name_of}
@@ -24,6 +25,7 @@ use Rattle.faust_names.specs.Histories.{named}
 use Rattle.faust_lists.specs.Walks.{IsVersionOf}
 use Rattle.faust_honest.specs.World.{World, IsCommitOf, submit_of, written}
 use Rattle.faust_honest.specs.Honest.{IsAccepted, IsHonest}
+use Rattle.faust_forks.specs.Pairs.{Pair, checked}
 use Rattle.faust_agent.specs.State.{completed_count, version_at}
 use Rattle.faust_agent.specs.Deeds.{Sent, submits, commits}
 use Rattle.faust_agent.specs.Outcomes.{sent_bytes}
@@ -35,7 +37,7 @@ use Rattle.faust_record.specs.Made.{made_behind}
 use Rattle.faust_record.specs.Operations.{Finished, Started, completion_named, finished_among, started_among}
 use Rattle.faust_record.specs.Runs.{arrived_in, entries_of, sent_in}
 use Rattle.faust_record.specs.declared.entry.Entry.{Entry}
-use Rattle.faust_audit.specs.Departure.{given_to, line_of, times_of}
+use Rattle.faust_audit.specs.Departure.{Given, given_to, line_of, times_of}
 use Rattle.faust_audit.specs.Findings.{is_write, order_among}
 
 -- The operations of a run, as the honest server's promises speak of them.
@@ -176,6 +178,27 @@ abbrev pub AreQuiet : ℕ → List ℕ → List (List ℕ) → Type 0
 AreQuiet n arrived made =
     (message : PeerMessage) → IsPeerMessageFor n message → Has made (peer_body message) → IsQuiet n arrived message.peer
 
+-- A body of the history: of an operation that arrived, its SUBMIT or what its client's register holds then; or of an
+-- operation whose COMMIT the server took, its version or the digest of the chain up to it.
+pub data IsBodyOf (n : ℕ) (world : World) (arrived handled body : List ℕ) : Type 0 where
+  of_submit : (k t : ℕ) → IsClient n k → t < count k arrived
+      → body ≡ submit_body k (world.kind k (suc t)) (world.register k (suc t)) (suc t) → IsBodyOf n world arrived handled body
+  of_data : (k t : ℕ) → IsClient n k → t < count k arrived
+      → body ≡ data_body k (suc t) (digest_of (written world k (suc t))) → IsBodyOf n world arrived handled body
+  of_commit : (k t : ℕ) (version : Vector) → IsClient n k → t < count k arrived → t < count k handled
+      → IsVersionOf n version (upto k (suc t) arrived) → body ≡ commit_body k version → IsBodyOf n world arrived handled body
+  of_proof : (k t : ℕ) (digest : List ℕ) → IsClient n k → t < count k arrived → t < count k handled
+      → chain_of (upto k (suc t) arrived) ≡ Some digest → body ≡ proof_body k digest → IsBodyOf n world arrived handled body
+
+-- Each pair that a reply has to answer for is of such a body; and so of all replies that the server gave.
+abbrev pub AreOfHistory : ℕ → World → List ℕ → List ℕ → List Pair → Type 0
+AreOfHistory n world arrived handled pairs = (pair : Pair) → Has pairs pair → IsBodyOf n world arrived handled pair.body
+
+abbrev pub AreGivenOf : ℕ → World → List ℕ → List ℕ → List Given → Type 0
+AreGivenOf n world arrived handled [] = Unit {0}
+AreGivenOf n world arrived handled (given ∷ rest) =
+    AreOfHistory n world arrived handled (checked given.reply) × AreGivenOf n world arrived handled rest
+
 -- Behind the entries: the history, and to which COMMITs the server came.
 pub record IsJoined (config : Config) (world : World) (entries : List Entry) : Type 0 where
   pub arrived : List ℕ
@@ -185,6 +208,7 @@ pub record IsJoined (config : Config) (world : World) (entries : List Entry) : T
       → IsClientJoined config world arrived (count k handled) k (entries_of k entries)
       (given_to k (line_of config entries).given) (times_of k (line_of config entries).handed)
   pub quiet : AreQuiet config.clients arrived (made_behind config [] entries)
+  pub given : AreGivenOf config.clients world arrived handled (line_of config entries).given
 
 -- The order of arrival names an operation of the history: it is a write, or it completed in the run.
 abbrev pub is_named_in : World → List Entry → List ℕ → Bool
@@ -215,3 +239,17 @@ pub record AreTold (world : World) (arrived : List ℕ) (k : ℕ) (finished : Li
 abbrev pub AreAllTold : Config → World → List ℕ → List Entry → Type 0
 AreAllTold config world arrived entries = (k : ℕ) → IsClient config.clients k
     → AreTold world arrived k (finished_among (entries_of k entries)) (times_of k (line_of config entries).handed)
+
+-- Client k, of which so many operations began and so many completed, made their bodies.
+pub record AreBodiesMade (n : ℕ) (world : World) (made : List (List ℕ)) (arrived : List ℕ) (k begun done : ℕ) : Type 0 where
+  pub submitted : (t : ℕ) → t < begun → Has made (submit_body k (world.kind k (suc t)) (world.register k (suc t)) (suc t))
+  pub stored : (t : ℕ) → t < begun → Has made (data_body k (suc t) (digest_of (written world k (suc t))))
+  pub committed : (t : ℕ) (version : Vector) → t < done → IsVersionOf n version (upto k (suc t) arrived)
+      → Has made (commit_body k version)
+  pub proven : (t : ℕ) (digest : List ℕ) → t < done → chain_of (upto k (suc t) arrived) ≡ Some digest
+      → Has made (proof_body k digest)
+
+abbrev pub AreAllMade : Config → World → List ℕ → List Entry → Type 0
+AreAllMade config world arrived entries = (k : ℕ) → IsClient config.clients k
+    → AreBodiesMade config.clients world (made_behind config [] entries) arrived k
+    (length (started_among (entries_of k entries))) (times_of k (line_of config entries).handed)

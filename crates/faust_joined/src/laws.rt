@@ -9,7 +9,7 @@ ghost use Rattle.faust_premises.specs.Premises.{first_forged};
 ghost use Rattle.faust_audit.specs.Departure.{first_departure};
 ghost use Rattle.faust_audit.specs.Findings.{order_of};
 ghost use Rattle.faust_runs.specs.Histories.{history_read};
-ghost use Rattle.faust_joined.specs.Promised.{ArePeersMade, AreWellGiven, IsLinearizableBy};
+ghost use Rattle.faust_joined.specs.Promised.{ArePeersMade, AreVersionsComparable, AreWellGiven, AreWithoutPeers, IsLinearizableBy};
 
 /// Where no reply departs, no client has a notice, and each reply completes an operation.
 pub fn replies_complete_operations()
@@ -34,4 +34,19 @@ pub fn runs_are_linearizable_by_arrival()
 /// Where no tag is forged, what these promises ask of messages between clients holds.
 pub fn unforged_messages_were_made()
     ensures { (config : Config) (entries : List Entry) → first_forged config entries ≡ None → ArePeersMade config [] entries }
+{}
+
+/// Where no reply departs, of any two versions that clients made, one is at most the other.
+pub fn versions_are_comparable()
+    ensures { (config : Config) (entries : List Entry) → IsRun config entries → ArePeersMade config [] entries →
+        first_departure config entries ≡ None → AreVersionsComparable config entries }
+{}
+
+/// Where no reply departs, and messages between clients were made, no tag is forged. So where no reply departs and nothing
+/// comes to a client from another client, no tag is.
+pub fn honest_replies_forge_nothing()
+    ensures among_peers { (config : Config) (entries : List Entry) → IsRun config entries → ArePeersMade config [] entries →
+        first_departure config entries ≡ None → first_forged config entries ≡ None }
+    ensures without_peers { (config : Config) (entries : List Entry) → IsRun config entries → AreWithoutPeers entries →
+        first_departure config entries ≡ None → first_forged config entries ≡ None }
 {}

@@ -6,6 +6,7 @@ use Rattle.faust_record.specs.declared.entry.Entry.{Entry}
 use Rattle.faust_runs.proofs.Claims.{run-views}
 use Rattle.faust_held.proofs.Claims.{announced-right}
 use Rattle.faust_claims.proofs.Bringing.{meeting-noticed}
+use Rattle.faust_joined.proofs.Comparing.{versions-comparable}
 use Rattle.faust_joined.proofs.Linear.{order-linear}
 use Rattle.faust_joined.proofs.Running.{known-front, notice-after}
 use Rattle.faust_joined.proofs.Unforged.{peers-made}
@@ -49,6 +50,7 @@ honestly-served : (run : Run) → IsRun run.config run.entries → ArePeersMade 
 honestly-served run is made none = record {
   linearizable = order-linear run.config run.entries is made none;
   well_given = (known-front run.config run.entries run.entries [] is (append-nil run.entries) made none).well;
+  comparable = versions-comparable run.config run.entries is made none;
 }
 
 headline : (run : Run) → IsRun run.config run.entries → IsClean run.config run.entries → IsHeadline run

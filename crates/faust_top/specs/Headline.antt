@@ -13,7 +13,7 @@ use Rattle.faust_held.specs.Held.{GivesNotice}
 use Rattle.faust_audit.specs.Departure.{first_departure}
 use Rattle.faust_audit.specs.Findings.{order_of}
 use Rattle.faust_audit.specs.Meetings.{MeetIncomparable}
-use Rattle.faust_joined.specs.Promised.{AreWellGiven, IsLinearizableBy}
+use Rattle.faust_joined.specs.Promised.{AreVersionsComparable, AreWellGiven, IsLinearizableBy}
 
 -- Every cut that a client announces is right for the clients that it covers, judged by the history and the views of the
 -- whole run.
@@ -32,11 +32,12 @@ abbrev pub AreMeetingsNoticed : Run → Type 0
 AreMeetingsNoticed run = (front rest : List Entry) (entry : Entry) → run.entries ≡ front ++ entry ∷ rest
     → MeetIncomparable run.config front entry → GivesNotice entry
 
--- All operations are linearizable in the order of their arrival, no client has a notice, and each reply completes an
--- operation.
+-- All operations are linearizable in the order of their arrival, no client has a notice, each reply completes an
+-- operation, and of any two versions that clients made one is at most the other.
 pub record IsHonestlyServed (run : Run) : Type 0 where
   pub linearizable : IsLinearizableBy (history_read run.entries) (order_of run.config run.entries)
   pub well_given : AreWellGiven run.entries
+  pub comparable : AreVersionsComparable run.config run.entries
 
 -- The headline: the views that the report tells are weak fork-linearizable and causal; every announced cut is right;
 -- failure is announced only after the server departed from its protocol, and always where incomparable versions meet; and
