@@ -54,8 +54,12 @@ held-most n world arrived k done committed (Some c) back = omega (arith, back.0)
 taken-done : (config : Config) (world : World) (arrived : List ℕ) (taken begun k : ℕ) (st : Client) (queue : List Sent)
     (given : List Reply) (handed : ℕ) → IsInStep config world arrived taken begun k st queue given handed → taken ≤ handed
 taken-done config world arrived taken begun k st queue given handed h =
-    omega (arith, lead-taken config world arrived k (count k arrived) taken queue begun h.all_committed h.leads,
-    held-most config.clients world arrived k (completed_count k st) h.all_committed st.held h.held_back, h.handed_each)
+    omega (
+      arith,
+      lead-taken config world arrived k (count k arrived) taken queue begun h.all_committed h.leads,
+      held-most config.clients world arrived k (completed_count k st) h.all_committed st.held h.held_back,
+      h.handed_each,
+    )
 
 arrived-begun : (config : Config) (world : World) (arrived : List ℕ) (taken begun k : ℕ) (st : Client) (queue : List Sent)
     (given : List Reply) (handed : ℕ) → IsInStep config world arrived taken begun k st queue given handed → count k arrived ≤ begun

@@ -108,7 +108,11 @@ fn put_from(events: &mut Events, clients: u8, sender: u8, k: usize) -> Result<()
     for before in 0..clients {
         let receiver = before + 1;
         if sender != receiver {
-            events.push(Event::Peer { sender, receiver, k })?;
+            events.push(Event::Peer {
+                sender,
+                receiver,
+                k,
+            })?;
         }
     }
     Ok(())
@@ -129,7 +133,11 @@ fn put_to(events: &mut Events, clients: u8, receiver: u8, k: usize) -> Result<()
     for before in 0..clients {
         let sender = before + 1;
         if sender != receiver {
-            events.push(Event::Peer { sender, receiver, k })?;
+            events.push(Event::Peer {
+                sender,
+                receiver,
+                k,
+            })?;
         }
     }
     Ok(())
