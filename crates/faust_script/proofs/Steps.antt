@@ -349,6 +349,24 @@ can_step seed n ops steps size more =
     let is : IsUnderway n ops steps progress = underway seed n ops steps size (omega arith) in
     record { counted = counted n ops steps progress size is; from_one = size.from_one; some_able = some_able n ops steps progress size is more }
 
+-- A client that can act may act after the draw.
+pub step_can_act : (n ops client : ℕ) (actors : List Actor) (before after : Progress) → CanStep n ops before → after ≡ after_draw before
+    → actors ≡ after.actors → IsClient (length actors) client → CanAct n client after
+step_can_act n ops client actors before after can drawn_is same is =
+    let counted : IsCounted n before = can.counted in
+    let kept : IsCounted n (after_draw before) = record {
+      clients_count = counted.clients_count;
+      each_counted = counted.each_counted;
+      few_begun = counted.few_begun;
+      numbers_low = counted.numbers_low;
+    } in
+    let actors_of : Progress → List Actor = λ progress. progress.actors in
+    let sized : length actors ≡ n = ap (λ (l : List Actor). length l) (same ∙ ap actors_of drawn_is) ∙ counted.each_counted in
+    record {
+      is_client = record { from_one = is.from_one; to_n = omega (arith, is.to_n, sized) };
+      counted = subst (λ (progress : Progress). IsCounted n progress) (sym drawn_is) kept;
+    }
+
 -- After the last step none can.
 pub none_able : (seed n ops : ℕ) → IsSampleSize n ops → able ops (after_steps n ops (beginning seed n) (step_count ops)) ≡ []
 none_able seed n ops size =
