@@ -1,5 +1,5 @@
 -- The generated script is in range, and how many events it has.
-use Rattle.std.proofs.Common.{◌≡◌, ℕ, ◌+◌, ◌-◌, ◌*◌, ◌^◌, ◌<◌, ◌≤◌, zero, suc, Bool, true, false, cond, List, [], ◌∷◌, ◌++◌, length, get_or, length-append, append_assoc, append-nil, refl, sym, ap, ◌∙◌, subst, inl, inr, lit≤, lit<, arith}
+use Rattle.std.proofs.Common.{◌≡◌, ◌≢◌, ℕ, ◌+◌, ◌-◌, ◌*◌, ◌^◌, ◌<◌, ◌≤◌, zero, suc, Bool, true, false, cond, List, [], ◌∷◌, ◌++◌, length, get_or, length-append, append_assoc, append-nil, refl, sym, ap, ◌∙◌, subst, inl, inr, lit≤, lit<, arith}
 use Rattle.std.proofs.lemmas.Bool.{cases_eq, cond_both, cond-true, cond-false, eq-eqb, ne_eqb}
 use Rattle.std.proofs.Math.Nat.{mul-le-mul, suc-mul, zero-mul}
 use Rattle.std.specs.Prelude.{nat_eq}
@@ -7,10 +7,12 @@ use Rattle.std.specs.List.{AllByRecursion}
 use Rattle.faust_types.specs.Bytes.{AreBytes, IsKey}
 use Rattle.faust_types.specs.Clients.{IsClient, IsClientCount}
 use Rattle.faust_types.specs.Ranges.{IsConfig, IsSpan, IsWire}
+use Rattle.faust_types.specs.declared.config.Config.{Config}
+use Rattle.faust_script.specs.declared.script.Script.{Script}
 use Rattle.faust_script.specs.declared.event.Event.{Event}
 use Rattle.faust_script.specs.declared.event.Event.TheVariants as event
 use Rattle.faust_script.specs.declared.progress.Progress.{Progress}
-use Rattle.faust_script.specs.Generated.{IsSampleSize, after_steps, beginning, drawn_events, each_up_to, from_another, from_each, generated, last_operation, round_of, sample_config, sample_key, step_count, ticks, to_another, to_each}
+use Rattle.faust_script.specs.Generated.{IsSampleSize, after_steps, beginning, drawn_events, each_up_to, from_each, generated, last_operation, round_of, sample_config, sample_key, step_count, ticks, to_another, to_each}
 use Rattle.faust_script.specs.InRange.{IsEventFor, IsPlace, IsScript}
 use Rattle.faust_script.proofs.Steps.{IsUnderway, all_append, underway}
 
@@ -56,22 +58,22 @@ pub record IsOneEach (i m : ℕ) (events : List Event) : Type 0 where
   pub behind : i ≤ m → length events + 1 ≡ m
   pub before : m < i → length events ≡ m
 
-all_but_one : (i m : ℕ) (made : ℕ → Event) → 1 ≤ i → IsOneEach i m (each_up_to m (λ j. cond (nat_eq i j) [] (made j ∷ [])))
+all_but_one : (i m : ℕ) (test : ℕ → Bool) (made : ℕ → Event) → 1 ≤ i → test i ≡ true → ((j : ℕ) → j ≢ i → test j ≡ false)
+    → IsOneEach i m (each_up_to m (λ j. cond (test j) [] (made j ∷ [])))
 unfolding each_up_to
-all_but_one i zero made one = record { behind = λ h. absurd (omega arith); before = λ h. refl }
-all_but_one i (suc m) made one =
-    let front : List Event = each_up_to m (λ j. cond (nat_eq i j) [] (made j ∷ [])) in
-    let is : IsOneEach i m front = all_but_one i m made one in
-    elim (cases_eq i (suc m)) [
+all_but_one i zero test made one own others = record { behind = λ h. absurd (omega arith); before = λ h. refl }
+all_but_one i (suc m) test made one own others =
+    let front : List Event = each_up_to m (λ j. cond (test j) [] (made j ∷ [])) in
+    let last : List Event = cond (test (suc m)) [] (made (suc m) ∷ []) in
+    let is : IsOneEach i m front = all_but_one i m test made one own others in
+    elim (cases_eq (suc m) i) [
       | inl same ↦
-          let none : cond (nat_eq i (suc m)) [] (made (suc m) ∷ []) ≡ [] = cond-true (nat_eq i (suc m)) [] (made (suc m) ∷ []) (eq-eqb i (suc m) same) in
-          let whole : length (front ++ cond (nat_eq i (suc m)) [] (made (suc m) ∷ [])) ≡ length front + 0 =
-          length-append front (cond (nat_eq i (suc m)) [] (made (suc m) ∷ [])) ∙ ap (λ (l : List Event). length front + length l) none in
+          let none : last ≡ [] = cond-true (test (suc m)) [] (made (suc m) ∷ []) (ap test same ∙ own) in
+          let whole : length (front ++ last) ≡ length front + 0 = length-append front last ∙ ap (λ (l : List Event). length front + length l) none in
           record { behind = λ h. omega (arith, whole, is.before (omega arith)); before = λ h. absurd (omega arith) }
       | inr other ↦
-          let some : cond (nat_eq i (suc m)) [] (made (suc m) ∷ []) ≡ made (suc m) ∷ [] = cond-false (nat_eq i (suc m)) [] (made (suc m) ∷ []) (ne_eqb i (suc m) other) in
-          let whole : length (front ++ cond (nat_eq i (suc m)) [] (made (suc m) ∷ [])) ≡ length front + 1 =
-          length-append front (cond (nat_eq i (suc m)) [] (made (suc m) ∷ [])) ∙ ap (λ (l : List Event). length front + length l) some in
+          let some : last ≡ made (suc m) ∷ [] = cond-false (test (suc m)) [] (made (suc m) ∷ []) (others (suc m) other) in
+          let whole : length (front ++ last) ≡ length front + 1 = length-append front last ∙ ap (λ (l : List Event). length front + length l) some in
           record { behind = λ h. omega (arith, whole, is.behind (omega (arith, other))); before = λ h. omega (arith, whole, is.before (omega arith)) }
     ]
 
@@ -88,9 +90,9 @@ from_each_in_range n k place =
 
 to_each_in_range : (n k : ℕ) → IsPlace k → AllByRecursion (IsEventFor n) (to_each n k)
 to_each_in_range n k place =
-    each_in_range n n (λ i. each_up_to n (λ j. from_another k i j))
-    (λ i receiver. each_in_range n n (λ j. from_another k i j)
-    (λ j sender. cond_both (nat_eq i j) [] (event.Peer j i k ∷ []) (AllByRecursion (IsEventFor n)) (λ same. tt) (λ other. ((sender, receiver, place), tt))) (omega arith))
+    each_in_range n n (λ i. each_up_to n (λ j. to_another k j i))
+    (λ i receiver. each_in_range n n (λ j. to_another k j i)
+    (λ j sender. cond_both (nat_eq j i) [] (event.Peer j i k ∷ []) (AllByRecursion (IsEventFor n)) (λ same. tt) (λ other. ((sender, receiver, place), tt))) (omega arith))
     (omega arith)
 
 round_in_range : (n r : ℕ) → 1 ≤ r → r ≤ 2 → AllByRecursion (IsEventFor n) (round_of n r)
@@ -106,12 +108,12 @@ ticks_counted n moment = each_counted n n 1 (λ i. event.Tick i moment ∷ []) (
 from_each_counted : (n k : ℕ) → length (from_each n k) ≡ n * (n - 1)
 from_each_counted n k =
     each_counted n n (n - 1) (λ i. each_up_to n (λ j. to_another k i j))
-    (λ i is. let one = all_but_one i n (λ j. event.Peer i j k) is.from_one in omega (arith, one.behind is.to_n)) (omega arith)
+    (λ i is. let one = all_but_one i n (λ j. nat_eq i j) (λ j. event.Peer i j k) is.from_one (eq-eqb i i refl) (λ j other. ne_eqb i j (λ e. other (sym e))) in omega (arith, one.behind is.to_n)) (omega arith)
 
 to_each_counted : (n k : ℕ) → length (to_each n k) ≡ n * (n - 1)
 to_each_counted n k =
-    each_counted n n (n - 1) (λ i. each_up_to n (λ j. from_another k i j))
-    (λ i is. let one = all_but_one i n (λ j. event.Peer j i k) is.from_one in omega (arith, one.behind is.to_n)) (omega arith)
+    each_counted n n (n - 1) (λ i. each_up_to n (λ j. to_another k j i))
+    (λ i is. let one = all_but_one i n (λ j. nat_eq j i) (λ j. event.Peer j i k) is.from_one (eq-eqb i i refl) (λ j other. ne_eqb j i other) in omega (arith, one.behind is.to_n)) (omega arith)
 
 round_counted : (n r : ℕ) → length (round_of n r) ≡ n + 2 * (n * (n - 1))
 round_counted n r =
@@ -159,3 +161,20 @@ generated_in_range seed n ops size =
           (all_append (IsEventFor n) (round_of n 1) (round_of n 2) (round_in_range n 1 (lit≤ tt) (lit≤ tt)) (round_in_range n 2 (lit≤ tt) (lit≤ tt))));
       few_events = omega (arith, generated_counted seed n ops size, few, size.to_3000, size.clients_count.at_most_32);
     }
+
+-- A script of these parts, one behind the other.
+abbrev pub script_of : Config → List Event → Script
+script_of config events = record { format = 1; config = config; events = events }
+
+pub generated_is : (seed n ops : ℕ) (config : Config) (drawn ended one two : List Event) → drawn ≡ drawn_events seed n ops
+    → ended ≡ drawn ++ last_operation n → one ≡ ended ++ round_of n 1 → two ≡ one ++ round_of n 2 → config ≡ sample_config n
+    → script_of config two ≡ generated seed n ops
+unfolding generated
+generated_is seed n ops config drawn ended one two first second third fourth shared =
+    let front : List Event = drawn_events seed n ops in
+    let ended_is : ended ≡ front ++ last_operation n = second ∙ ap (λ (l : List Event). l ++ last_operation n) first in
+    let one_is : one ≡ (front ++ last_operation n) ++ round_of n 1 = third ∙ ap (λ (l : List Event). l ++ round_of n 1) ended_is in
+    let two_is : two ≡ ((front ++ last_operation n) ++ round_of n 1) ++ round_of n 2 = fourth ∙ ap (λ (l : List Event). l ++ round_of n 2) one_is in
+    let whole : two ≡ front ++ (last_operation n ++ (round_of n 1 ++ round_of n 2)) =
+    two_is ∙ (append_assoc (front ++ last_operation n) (round_of n 1) (round_of n 2) ∙ append_assoc front (last_operation n) (round_of n 1 ++ round_of n 2)) in
+    ap (λ (c : Config). script_of c two) shared ∙ ap (λ (l : List Event). script_of (sample_config n) l) whole

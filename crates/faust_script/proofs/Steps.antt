@@ -1,8 +1,9 @@
 -- Some client can act in each step of the generated script, and none after the last.
-use Rattle.std.proofs.Common.{◌≡◌, ◌≢◌, ℕ, ◌+◌, ◌-◌, ◌*◌, ◌%◌, ◌^◌, ◌<◌, ◌≤◌, zero, suc, Bool, true, false, cond, List, [], ◌∷◌, ◌++◌, length, get_or, set, drop, replicate, length-set, length-append, refl, sym, ap, ◌∙◌, subst, inl, inr, lit<, arith}
+use Rattle.std.proofs.Common.{◌≡◌, ◌≢◌, ℕ, ◌+◌, ◌-◌, ◌*◌, ◌%◌, ◌/◌, ◌^◌, ◌<◌, ◌≤◌, zero, suc, Bool, true, false, cond, List, [], ◌∷◌, ◌++◌, length, get_or, set, drop, replicate, length-set, length-append, refl, sym, ap, ◌∙◌, subst, inl, inr, lit<, arith}
 use Rattle.std.proofs.lemmas.Bool.{cases_Bool, cases_lt, cond_both, cond-true, cond-false, ltb-true, lt-ltb, le-ltb, ltb-false, false≢true}
 use Rattle.std.proofs.lemmas.List.{get_or_past, length-replicate}
 use Rattle.std.proofs.Math.Seq.{drop-cons}
+use Rattle.std.proofs.Math.Nat.{mod-add-mod}
 use Rattle.std.specs.Prelude.{nat_lt, nat_eq}
 use Rattle.std.specs.List.{AllByRecursion}
 use Rattle.std.specs.Fmt.{decimal}
@@ -121,12 +122,42 @@ not_owed may phases.Begun cannot = absurd (false≢true (sym cannot))
 not_owed may phases.Arrived cannot = absurd (false≢true (sym cannot))
 not_owed may phases.Replied cannot = absurd (false≢true (sym cannot))
 
--- The clients that can act, seen from one on.
-pub able_next : (may : Bool) (actors : List Actor) (i : ℕ) → i < length actors
-    → able_from may (i + 1) (drop i actors) ≡ able_from may (i + 1) (get_or actors i idle ∷ drop (i + 1) actors)
-able_next may actors i within =
+-- The clients that can act from one on: this one and the later ones, or the later ones alone.
+able_next : (may : Bool) (actors : List Actor) (i : ℕ) (d : Actor) → i < length actors
+    → able_from may (i + 1) (drop i actors) ≡ able_from may (i + 1) (get_or actors i d ∷ drop (i + 1) actors)
+able_next may actors i d within =
     let step : suc i ≡ i + 1 = omega arith in
-    ap (λ (l : List Actor). able_from may (i + 1) l) (drop-cons actors i idle within ∙ ap (λ (k : ℕ). get_or actors i idle ∷ drop k actors) step)
+    ap (λ (l : List Actor). able_from may (i + 1) l) (drop-cons actors i d within ∙ ap (λ (k : ℕ). get_or actors i d ∷ drop k actors) step)
+
+pub able_taken : (may : Bool) (actors : List Actor) (i : ℕ) (d : Actor) → i < length actors → can_act may (get_or actors i d).phase ≡ true
+    → able_from may (i + 1) (drop i actors) ≡ (i + 1) ∷ able_from may (i + 1 + 1) (drop (i + 1) actors)
+able_taken may actors i d within can =
+    able_next may actors i d within
+    ∙ cond-true (can_act may (get_or actors i d).phase) ((i + 1) ∷ able_from may (i + 1 + 1) (drop (i + 1) actors)) (able_from may (i + 1 + 1) (drop (i + 1) actors)) can
+
+pub able_passed : (may : Bool) (actors : List Actor) (i : ℕ) (d : Actor) → i < length actors → can_act may (get_or actors i d).phase ≡ false
+    → able_from may (i + 1) (drop i actors) ≡ able_from may (i + 1 + 1) (drop (i + 1) actors)
+able_passed may actors i d within cannot =
+    able_next may actors i d within
+    ∙ cond-false (can_act may (get_or actors i d).phase) ((i + 1) ∷ able_from may (i + 1 + 1) (drop (i + 1) actors)) (able_from may (i + 1 + 1) (drop (i + 1) actors)) cannot
+
+-- A step more.
+pub one_more_step : (n ops : ℕ) (progress : Progress) (steps : ℕ) → acted n ops (after_steps n ops progress steps) ≡ after_steps n ops progress (steps + 1)
+unfolding after_steps
+one_more_step n ops progress steps = let step : suc steps ≡ steps + 1 = omega arith in ap (λ (k : ℕ). after_steps n ops progress k) step
+
+pub no_step : (n ops : ℕ) (progress : Progress) → after_steps n ops progress 0 ≡ progress
+unfolding after_steps
+no_step n ops progress = refl
+
+-- A draw as the machine computes it.
+pub drawn_wraps : (state : ℕ) → (state * 6364136223846793005 % 2 ^ 64 + 1442695040888963407) % 2 ^ 64 ≡ drawn state
+unfolding drawn
+drawn_wraps state = mod-add-mod (state * 6364136223846793005) (2 ^ 64) 1442695040888963407
+
+pub answer_shifts : (state : ℕ) → state / 2 ^ 33 ≡ answer state
+unfolding answer
+answer_shifts state = refl
 
 -- Where a step is owed some client can act, and where an operation may begin each can.
 owed_more : (actor : Actor) (actors : List Actor) → owed (actor ∷ actors) ≡ owed_in actor.phase + owed actors
@@ -317,6 +348,24 @@ can_step seed n ops steps size more =
     let progress : Progress = after_steps n ops (beginning seed n) steps in
     let is : IsUnderway n ops steps progress = underway seed n ops steps size (omega arith) in
     record { counted = counted n ops steps progress size is; from_one = size.from_one; some_able = some_able n ops steps progress size is more }
+
+-- A client that can act may act after the draw.
+pub step_can_act : (n ops client : ℕ) (actors : List Actor) (before after : Progress) → CanStep n ops before → after ≡ after_draw before
+    → actors ≡ after.actors → IsClient (length actors) client → CanAct n client after
+step_can_act n ops client actors before after can drawn_is same is =
+    let counted : IsCounted n before = can.counted in
+    let kept : IsCounted n (after_draw before) = record {
+      clients_count = counted.clients_count;
+      each_counted = counted.each_counted;
+      few_begun = counted.few_begun;
+      numbers_low = counted.numbers_low;
+    } in
+    let actors_of : Progress → List Actor = λ progress. progress.actors in
+    let sized : length actors ≡ n = ap (λ (l : List Actor). length l) (same ∙ ap actors_of drawn_is) ∙ counted.each_counted in
+    record {
+      is_client = record { from_one = is.from_one; to_n = omega (arith, is.to_n, sized) };
+      counted = subst (λ (progress : Progress). IsCounted n progress) (sym drawn_is) kept;
+    }
 
 -- After the last step none can.
 pub none_able : (seed n ops : ℕ) → IsSampleSize n ops → able ops (after_steps n ops (beginning seed n) (step_count ops)) ≡ []

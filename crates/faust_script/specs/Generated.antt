@@ -123,11 +123,8 @@ abbrev pub from_each : ℕ → ℕ → List Event
 from_each n k = each_up_to n (λ i. each_up_to n (λ j. to_another k i j))
 
 -- The same, by receivers.
-abbrev pub from_another : ℕ → ℕ → ℕ → List Event
-from_another k i j = cond (nat_eq i j) [] (event.Peer j i k ∷ [])
-
 abbrev pub to_each : ℕ → ℕ → List Event
-to_each n k = each_up_to n (λ i. each_up_to n (λ j. from_another k i j))
+to_each n k = each_up_to n (λ i. each_up_to n (λ j. to_another k j i))
 
 -- A round: each client asks each other one for its version, and each of these answers.
 abbrev pub round_of : ℕ → ℕ → List Event

@@ -181,6 +181,7 @@ fn able_at(actors: &[Actor], may_begin: bool, place: u64) -> u8
     requires few { length actors.now ≤ 32 }
     requires within { place < length (able_from may_begin 1 actors.now) }
     ensures value { result ≡ slice_index (able_from may_begin 1 actors.now) place }
+    ensures client { IsClient (length actors.now) result }
 {
     let mut left = place;
     let mut client = 0;
