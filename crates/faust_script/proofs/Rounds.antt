@@ -157,8 +157,8 @@ generated_in_range seed n ops size =
         wire_known = record { from_one = lit≤ tt; to_two = lit≤ tt };
       };
       events_in_range = all_append (IsEventFor n) drawn (last_operation n ++ (round_of n 1 ++ round_of n 2)) is.events_in_range
-      (all_append (IsEventFor n) (last_operation n) (round_of n 1 ++ round_of n 2) (last_in_range n size.clients_count)
-      (all_append (IsEventFor n) (round_of n 1) (round_of n 2) (round_in_range n 1 (lit≤ tt) (lit≤ tt)) (round_in_range n 2 (lit≤ tt) (lit≤ tt))));
+          (all_append (IsEventFor n) (last_operation n) (round_of n 1 ++ round_of n 2) (last_in_range n size.clients_count)
+          (all_append (IsEventFor n) (round_of n 1) (round_of n 2) (round_in_range n 1 (lit≤ tt) (lit≤ tt)) (round_in_range n 2 (lit≤ tt) (lit≤ tt))));
       few_events = omega (arith, generated_counted seed n ops size, few, size.to_3000, size.clients_count.at_most_32);
     }
 

@@ -287,7 +287,7 @@ pub some_able : (n ops steps : ℕ) (progress : Progress) → IsSampleSize n ops
 some_able n ops steps progress size underway more =
     elim (cases_Bool (may_begin_one ops progress)) [
       | inl may ↦ subst (λ (b : Bool). 0 < length (able_from b 1 progress.actors)) (sym may)
-      (some_where_open 1 progress.actors (omega (arith, underway.each_counted, size.clients_count.at_least_two)))
+          (some_where_open 1 progress.actors (omega (arith, underway.each_counted, size.clients_count.at_least_two)))
       | inr may_not ↦
           let all_begun : ops - 1 ≤ progress.begun = ltb-false progress.begun (ops - 1) may_not in
           some_from_owed (may_begin_one ops progress) 1 progress.actors (omega (arith, underway.left))

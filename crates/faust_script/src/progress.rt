@@ -11,7 +11,9 @@ use std::alloc::Global;
 
 /// A draw makes the next state by this product and sum, modulo 2^64.
 const FACTOR: u64 = 6_364_136_223_846_793_005;
+
 const ADDEND: u64 = 1_442_695_040_888_963_407;
+
 const SHIFT: u32 = 33;
 
 /// How far a client is with its operation.
