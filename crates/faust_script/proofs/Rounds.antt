@@ -1,17 +1,15 @@
 -- The generated script is in range, and how many events it has.
-use Rattle.std.proofs.Common.{◌≡◌, ◌≢◌, ℕ, ◌+◌, ◌-◌, ◌*◌, ◌^◌, ◌<◌, ◌≤◌, zero, suc, Bool, true, false, cond, List, [], ◌∷◌, ◌++◌, length, get_or, length-append, append_assoc, append-nil, refl, sym, ap, ◌∙◌, subst, inl, inr, lit≤, lit<, arith}
+use Rattle.std.proofs.Common.{◌≡◌, ◌≢◌, ℕ, ◌+◌, ◌-◌, ◌*◌, ◌^◌, ◌<◌, ◌≤◌, zero, suc, Bool, true, false, cond, List, [], ◌∷◌, ◌++◌, length, length-append, append_assoc, append-nil, refl, sym, ap, ◌∙◌, inl, inr, lit≤, lit<, arith}
 use Rattle.std.proofs.lemmas.Bool.{cases_eq, cond_both, cond-true, cond-false, eq-eqb, ne_eqb}
 use Rattle.std.proofs.Math.Nat.{mul-le-mul, suc-mul, zero-mul}
 use Rattle.std.specs.Prelude.{nat_eq}
 use Rattle.std.specs.List.{AllByRecursion}
-use Rattle.faust_types.specs.Bytes.{AreBytes, IsKey}
+use Rattle.faust_types.specs.Bytes.{IsKey}
 use Rattle.faust_types.specs.Clients.{IsClient, IsClientCount}
-use Rattle.faust_types.specs.Ranges.{IsConfig, IsSpan, IsWire}
 use Rattle.faust_types.specs.declared.config.Config.{Config}
 use Rattle.faust_script.specs.declared.script.Script.{Script}
 use Rattle.faust_script.specs.declared.event.Event.{Event}
 use Rattle.faust_script.specs.declared.event.Event.TheVariants as event
-use Rattle.faust_script.specs.declared.progress.Progress.{Progress}
 use Rattle.faust_script.specs.Generated.{IsSampleSize, after_steps, beginning, drawn_events, each_up_to, from_each, generated, last_operation, round_of, sample_config, sample_key, step_count, ticks, to_another, to_each}
 use Rattle.faust_script.specs.InRange.{IsEventFor, IsPlace, IsScript}
 use Rattle.faust_script.proofs.Steps.{IsUnderway, all_append, underway}

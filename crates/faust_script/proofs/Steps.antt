@@ -1,10 +1,10 @@
 -- Some client can act in each step of the generated script, and none after the last.
 use Rattle.std.proofs.Common.{◌≡◌, ◌≢◌, ℕ, ◌+◌, ◌-◌, ◌*◌, ◌%◌, ◌/◌, ◌^◌, ◌<◌, ◌≤◌, zero, suc, Bool, true, false, cond, List, [], ◌∷◌, ◌++◌, length, get_or, set, drop, replicate, length-set, length-append, refl, sym, ap, ◌∙◌, subst, inl, inr, lit<, arith}
-use Rattle.std.proofs.lemmas.Bool.{cases_Bool, cases_lt, cond_both, cond-true, cond-false, ltb-true, lt-ltb, le-ltb, ltb-false, false≢true}
+use Rattle.std.proofs.lemmas.Bool.{cases_Bool, cases_lt, cond_both, cond-true, cond-false, ltb-true, le-ltb, ltb-false, false≢true}
 use Rattle.std.proofs.lemmas.List.{get_or_past, length-replicate}
 use Rattle.std.proofs.Math.Seq.{drop-cons}
 use Rattle.std.proofs.Math.Nat.{mod-add-mod}
-use Rattle.std.specs.Prelude.{nat_lt, nat_eq}
+use Rattle.std.specs.Prelude.{nat_eq}
 use Rattle.std.specs.List.{AllByRecursion}
 use Rattle.std.specs.Fmt.{decimal}
 use Rattle.std.proofs.lemmas.Fmt.{length-decimal-le}
@@ -16,7 +16,7 @@ use Rattle.faust_script.specs.declared.progress.Actor.{Actor}
 use Rattle.faust_script.specs.declared.progress.Phase.{Phase}
 use Rattle.faust_script.specs.declared.progress.Phase.TheVariants as phases
 use Rattle.faust_script.specs.declared.progress.Progress.{Progress}
-use Rattle.faust_script.specs.Generated.{IsSampleSize, able, able_from, acted, acting_client, acts, after_draw, after_steps, answer, beginning, begins_drawn, begins_read, begins_with, can_act, drawn, goes_on, idle, may_begin_one, step_count, value_of, with_event_of}
+use Rattle.faust_script.specs.Generated.{IsSampleSize, able, able_from, acted, after_draw, after_steps, answer, beginning, begins_read, begins_with, can_act, drawn, goes_on, idle, may_begin_one, step_count, value_of}
 use Rattle.faust_script.specs.InRange.{IsEventFor}
 use Rattle.faust_text.proofs.NumberLaws.{digits_at, is_number-decimal}
 use Rattle.faust_script.specs.Stepping.{CanAct, CanStep, IsCounted}
