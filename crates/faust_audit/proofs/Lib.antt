@@ -8,6 +8,8 @@ pub mod Posts
 pub mod Completions
 -- what is seen of an entry is what its deed makes, hashes and leaves
 pub mod Seeing
+-- a book of digests
+pub mod DigestLaws
 -- the tables as lists
 pub mod TableLaws
 -- the table of inputs with one more

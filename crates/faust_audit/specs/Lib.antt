@@ -1,5 +1,6 @@
 pub mod Audited
 pub mod Watching
+pub mod Digests
 pub mod Tables
 pub mod Passing
 pub mod Departure

@@ -1,6 +1,5 @@
 //! What a client hashed in judging a reply that broke a check.
-ghost use Rattle.std.specs.Prelude.{◌≡◌, IfOk, IfSome, map};
-ghost use Rattle.faust_types.specs.Clients.{IsClient};
+ghost use Rattle.std.specs.Prelude.{◌≡◌, IfOk, IfSome};
 ghost use Rattle.faust_types.specs.Versions.{clients_of};
 ghost use Rattle.faust_audit.specs.Watching.{IsCameFor, IsWatchedFor, hashed_breaking, hashed_waiting};
 

@@ -1,5 +1,5 @@
 //! The checked pairs of an entry.
-ghost use Rattle.std.specs.Prelude.{◌≡◌, ◌+◌, ◌++◌, ◌∷◌, [], List, cond, length, slice_index_or, None, IfOk, IfSome, OnOk};
+ghost use Rattle.std.specs.Prelude.{◌≡◌, ◌+◌, ◌++◌, ◌∷◌, [], List, cond, length, None, IfOk, IfSome, OnOk};
 ghost use Rattle.faust_types.specs.Clients.{IsClient};
 ghost use Rattle.faust_types.specs.Ranges.{IsConfig, IsReplyFor, IsTupleFor};
 ghost use Rattle.faust_types.specs.Versions.{clients_of};
@@ -9,8 +9,9 @@ ghost use Rattle.faust_forks.specs.Pairs.{Pair, checked, known_pairs, mem_pairs,
 ghost use Rattle.faust_premises.specs.Premises.{pairs_of_input};
 ghost use Rattle.faust_audit.specs.Watching.{IsCameFor, reply_came};
 
+use crate::book::Book;
+use crate::completion::walk_on;
 use crate::reading::message_of;
-use faust_hash::value_digest;
 use faust_record::Input;
 use faust_tags::{commit_body, data_body, peer_body, proof_body, submit_body};
 use faust_types::{
@@ -61,6 +62,7 @@ impl Checked {
 /// The checked pairs of an input with which this REPLY comes, or none.
 pub fn checked_of(
     alloc: Global,
+    book: &mut Book,
     config: &Config,
     input: &Input,
     reply: &Option<Reply>,
@@ -71,7 +73,7 @@ pub fn checked_of(
     ensures { IfOk result (λ pairs. pairs ≡ pairs_of_input config.now input.now) }
 {
     match reply {
-        Some(reply) => reply_pairs(alloc, reply),
+        Some(reply) => reply_pairs(alloc, book, reply),
         None => peer_pairs(alloc, config, input),
     }
 }
@@ -99,14 +101,18 @@ fn of_message(alloc: Global, config: &Config, message: &PeerMessage) -> Result<C
     Ok(Checked::new(body, message.tag))
 }
 
-fn reply_pairs(alloc: Global, reply: &Reply) -> Result<Sequence<Checked>, OutOfMemory>
+fn reply_pairs(
+    alloc: Global,
+    book: &mut Book,
+    reply: &Reply,
+) -> Result<Sequence<Checked>, OutOfMemory>
     requires { IsReplyFor (clients_of reply.now.version.version) reply.now }
     ensures { IfOk result (λ pairs. pairs ≡ checked reply.now) }
 {
     let mut out = Sequence::new(alloc);
     put_known(alloc, reply.c, &reply.version, &mut out)?;
-    if put_tuples(alloc, reply, &mut out)? {
-        put_read(alloc, &reply.read, &mut out)?;
+    if put_tuples(alloc, book, reply, &mut out)? {
+        put_read(alloc, book, &reply.read, &mut out)?;
     }
     Ok(out)
 }
@@ -129,6 +135,7 @@ fn put_known(
 // The pairs of the tuples, and whether what comes behind the tuples is checked too.
 fn put_tuples(
     alloc: Global,
+    book: &mut Book,
     reply: &Reply,
     out: &mut Sequence<Checked>,
 ) -> Result<bool, OutOfMemory>
@@ -138,7 +145,7 @@ fn put_tuples(
 {
     let mut walk = Walk::begin(reply)?;
     for tuple in reply.pending.as_slice() {
-        if !put_tuple(alloc, &reply.proofs, &mut walk, tuple, out)? {
+        if !put_tuple(alloc, book, &reply.proofs, &mut walk, tuple, out)? {
             return Ok(false);
         }
     }
@@ -148,6 +155,7 @@ fn put_tuples(
 // The pairs of one tuple, and whether its client has a next operation: the walk goes on then.
 fn put_tuple(
     alloc: Global,
+    book: &mut Book,
     proofs: &Proofs,
     walk: &mut Walk,
     tuple: &Tuple,
@@ -168,7 +176,7 @@ fn put_tuple(
         return Ok(false);
     }
     out.push(of_tuple(alloc, walk, tuple)?)?;
-    walk.advance(k);
+    let _ = walk_on(alloc, book, k, walk)?;
     Ok(true)
 }
 
@@ -201,6 +209,7 @@ fn of_tuple(alloc: Global, walk: &Walk, tuple: &Tuple) -> Result<Checked, OutOfM
 
 fn put_read(
     alloc: Global,
+    book: &mut Book,
     read: &Option<ReadPart>,
     out: &mut Sequence<Checked>,
 ) -> Result<(), OutOfMemory>
@@ -208,13 +217,14 @@ fn put_read(
 {
     if let Some(part) = read {
         put_known(alloc, part.register, &part.version, out)?;
-        put_mem(alloc, part.register, &part.mem, out)?;
+        put_mem(alloc, book, part.register, &part.mem, out)?;
     }
     Ok(())
 }
 
 fn put_mem(
     alloc: Global,
+    book: &mut Book,
     j: u8,
     mem: &Option<Mem>,
     out: &mut Sequence<Checked>,
@@ -222,24 +232,29 @@ fn put_mem(
     ensures { OnOk result (out.new ≡ out.old ++ mem_pairs j mem.now) }
 {
     if let Some(mem) = mem {
-        out.push(of_mem(alloc, j, mem)?)?;
+        out.push(of_mem(alloc, book, j, mem)?)?;
     }
     Ok(())
 }
 
-fn of_mem(alloc: Global, j: u8, mem: &Mem) -> Result<Checked, OutOfMemory>
+fn of_mem(alloc: Global, book: &mut Book, j: u8, mem: &Mem) -> Result<Checked, OutOfMemory>
     ensures { IfOk result (λ pair. mem_pairs j (Some mem.now) ≡ pair ∷ []) }
 {
-    let digest = digest_of(&mem.value);
+    let digest = digest_of(alloc, book, &mem.value)?;
     let body = data_body(alloc, j, mem.t, digest.as_ref())?;
     Ok(Checked::new(body, mem.tag))
 }
 
-fn digest_of(value: &Option<Bytes>) -> Option<Digest>
-    ensures { result ≡ digest_of value.now }
+#[tactic(auto, unfolding(faust_hash::specs::Chain::value_digest_of, faust_hash::specs::Chain::input_digest))]
+fn digest_of(
+    alloc: Global,
+    book: &mut Book,
+    value: &Option<Bytes>,
+) -> Result<Option<Digest>, OutOfMemory>
+    ensures { IfOk result (λ digest. digest ≡ digest_of value.now) }
 {
     match value {
-        None => None,
-        Some(value) => Some(value_digest(value.as_slice())),
+        None => Ok(None),
+        Some(value) => Ok(Some(*book.value(alloc, value.as_slice())?.digest())),
     }
 }

@@ -7,6 +7,7 @@ ghost use Rattle.faust_audit.specs.Watching.{IsCameFor, IsWatchedFor, bodies_see
 ghost use Rattle.faust_audit.specs.Tables.{HoldsBodies, HoldsInputs};
 
 use crate::body_set::BodySet;
+use crate::book::Book;
 use crate::breaking::hashed_at_break;
 use crate::checked::Checked;
 use crate::input_table::{Colliding, InputTable};
@@ -17,11 +18,12 @@ use faust_record::Entry;
 use faust_types::{Bytes, OutOfMemory, Reply, Sequence};
 use std::alloc::Global;
 
-/// Bodies and inputs that are looked up.
+/// Bodies and inputs that are looked up, and the digests of inputs.
 #[derive(Drop)]
 pub struct Collected {
     pub made: BodySet,
     pub inputs: InputTable,
+    pub book: Book,
 }
 
 impl Collected {
@@ -33,6 +35,7 @@ impl Collected {
         Collected {
             made: BodySet::new(alloc),
             inputs: InputTable::new(alloc),
+            book: Book::new(alloc),
         }
     }
 
@@ -76,7 +79,7 @@ impl Collected {
             ++ hashed_breaking key.now me watched.old reply.now entry.now.outcome.notice)) }
     {
         let me = entry.client;
-        let seen = watched.see(alloc, me, entry, reply)?;
+        let seen = watched.see(alloc, &mut self.book, me, entry, reply)?;
         let bodies = bodies_made(alloc, me, watched, &seen.moved, &entry.outcome)?;
         let broken = hashed_at_break(alloc, key, me, watched, reply, entry.outcome.notice)?;
         self.made.add_all(bodies)?;

@@ -1,5 +1,5 @@
-ghost use Rattle.std.specs.Prelude.{◌≡◌, ◌<◌, [], length, option_copied, IfOk, OnOk, is_some, replicate};
-ghost use Rattle.faust_types.specs.Clients.{IsClient, IsClientCount};
+ghost use Rattle.std.specs.Prelude.{◌≡◌, ◌<◌, [], length, option_copied, IfOk, OnOk, replicate};
+ghost use Rattle.faust_types.specs.Clients.{IsClient};
 ghost use Rattle.faust_audit.specs.Completing.{AreCompleted, completed_as, completed_with, has_name, has_number, with_number};
 
 use crate::run_entry::entry_at;

@@ -1,24 +1,23 @@
 //! What a client hashes and which version it makes where a reply breaks no check.
-ghost use Rattle.std.specs.Prelude.{◌≡◌, ◌++◌, ◌∷◌, [], true, false, ◌&&◌, List, IfOk, OnOk, ℕ};
+ghost use Rattle.std.specs.Prelude.{◌≡◌, ◌+◌, ◌^◌, ◌<◌, ◌++◌, ◌∷◌, [], true, false, ◌&&◌, IfOk, OnOk, ℕ};
 ghost use Rattle.faust_types.specs.Clients.{IsClient};
 ghost use Rattle.faust_types.specs.Ranges.{IsReplyFor};
-ghost use Rattle.faust_types.specs.Versions.{clients_of};
-ghost use Rattle.faust_types.specs.declared.message.Tuple.{Tuple};
+ghost use Rattle.faust_types.specs.Versions.{clients_of, timestamp_at};
 ghost use Rattle.faust_hash.specs.Chain.{chain_input};
 ghost use Rattle.faust_ustor.specs.Checks.{advanced, begun};
 ghost use Rattle.faust_ustor.specs.Hashed.{chain_inputs, read_inputs};
 ghost use Rattle.faust_ustor.specs.Passed.{followed};
 ghost use Rattle.faust_audit.specs.Watching.{IsMoveFor, completion_seen, has_next, have_next};
 
-use crate::hashed_input::{Hashed, chain_input, value_hashed};
+use crate::book::Book;
+use crate::hashed_input::Hashed;
 use crate::watched::{Move, Seen};
-use faust_hash::chain;
 use faust_types::{MAX_TIMESTAMP, OutOfMemory, ReadPart, Reply, Sequence};
 use faust_ustor::Walk;
 use std::alloc::Global;
 
 /// What is seen of a reply that completes an operation of client `me`.
-pub fn complete(alloc: Global, me: u8, reply: &Reply) -> Result<Seen, OutOfMemory>
+pub fn complete(alloc: Global, book: &mut Book, me: u8, reply: &Reply) -> Result<Seen, OutOfMemory>
     requires client { IsClient (clients_of reply.now.version.version) me }
     requires reply { IsReplyFor (clients_of reply.now.version.version) reply.now }
     ensures seen { IfOk result (λ seen. seen ≡ completion_seen me reply.now) }
@@ -26,12 +25,12 @@ pub fn complete(alloc: Global, me: u8, reply: &Reply) -> Result<Seen, OutOfMemor
 {
     let mut walk = Walk::begin(reply)?;
     let mut hashed = Sequence::new(alloc);
-    if !follow_all(alloc, reply, &mut walk, &mut hashed)?
-        || !follow(alloc, me, &mut walk, &mut hashed)?
+    if !follow_all(alloc, book, reply, &mut walk, &mut hashed)?
+        || !follow(alloc, book, me, &mut walk, &mut hashed)?
     {
         return Ok(Seen::nothing(alloc));
     }
-    put_read(alloc, &reply.read, &mut hashed)?;
+    put_read(alloc, book, &reply.read, &mut hashed)?;
     Ok(Seen {
         moved: Move::Completes(walk.version),
         hashed,
@@ -41,6 +40,7 @@ pub fn complete(alloc: Global, me: u8, reply: &Reply) -> Result<Seen, OutOfMemor
 // One operation of client k after the other, unless one has no next operation.
 fn follow_all(
     alloc: Global,
+    book: &mut Book,
     reply: &Reply,
     walk: &mut Walk,
     hashed: &mut Sequence<Hashed>,
@@ -53,7 +53,7 @@ fn follow_all(
     ensures room { IfOk result (λ goes_on. (me : ℕ) → have_next me walk.old reply.now.pending ≡ goes_on && has_next walk.new me) }
 {
     for tuple in reply.pending.as_slice() {
-        if !follow(alloc, tuple.client, walk, hashed)? {
+        if !follow(alloc, book, tuple.client, walk, hashed)? {
             return Ok(false);
         }
     }
@@ -61,9 +61,9 @@ fn follow_all(
 }
 
 // One more operation of client k, unless it has none.
-#[tactic(auto, unfolding(faust_hash::specs::Chain::link, faust_hash::specs::Chain::input_digest))]
 fn follow(
     alloc: Global,
+    book: &mut Book,
     k: u8,
     walk: &mut Walk,
     hashed: &mut Sequence<Hashed>,
@@ -77,16 +77,34 @@ fn follow(
     if walk.version.at(k) >= MAX_TIMESTAMP {
         return Ok(false);
     }
-    let input = chain_input(alloc, walk.digest, k)?;
-    let digest = chain(walk.digest.as_ref(), k);
-    hashed.push(Hashed::new(input, digest))?;
+    hashed.push(walk_on(alloc, book, k, walk)?)?;
+    Ok(true)
+}
+
+/// One more operation of client k, whose timestamp is below 2^40 - 1, and the input of its chain.
+#[tactic(auto, unfolding(faust_hash::specs::Chain::link, faust_hash::specs::Chain::input_digest))]
+pub fn walk_on(
+    alloc: Global,
+    book: &mut Book,
+    k: u8,
+    walk: &mut Walk,
+) -> Result<Hashed, OutOfMemory>
+    requires client { IsClient (clients_of walk.old.version) k }
+    requires room { timestamp_at walk.old.version k + 1 < 2 ^ 40 }
+    ensures hashed { IfOk result (λ hashed. hashed ≡ chain_input walk.old.digest k) }
+    ensures walked { OnOk result (walk.new ≡ advanced walk.old k) }
+    ensures sized { OnOk result (clients_of walk.new.version ≡ clients_of walk.old.version) }
+{
+    let hashed = book.link(alloc, walk.digest, k)?;
+    let digest = *hashed.digest();
     walk.version.step(k, digest);
     walk.digest = Some(digest);
-    Ok(true)
+    Ok(hashed)
 }
 
 fn put_read(
     alloc: Global,
+    book: &mut Book,
     read: &Option<ReadPart>,
     hashed: &mut Sequence<Hashed>,
 ) -> Result<(), OutOfMemory>
@@ -96,7 +114,7 @@ fn put_read(
         && let Some(mem) = &part.mem
         && let Some(value) = &mem.value
     {
-        hashed.push(value_hashed(alloc, value.as_slice())?)?;
+        hashed.push(book.value(alloc, value.as_slice())?)?;
     }
     Ok(())
 }

@@ -1,8 +1,8 @@
 //! An input that was hashed, with its digest.
-ghost use Rattle.std.specs.Prelude.{◌≡◌, IfOk};
+ghost use Rattle.std.specs.Prelude.{◌≡◌, IfOk, IfSome};
 ghost use Rattle.faust_hash.specs.Chain.{chain_input, input_digest, value_input};
 
-use faust_hash::{input_digest, value_digest};
+use faust_hash::input_digest;
 use faust_types::{Bytes, Digest, OutOfMemory, Sequence};
 use std::alloc::Global;
 use std::marker::Model;
@@ -54,6 +54,17 @@ impl Hashed {
         &self.input
     }
 
+    /// The digest of this input, if it is that one.
+    pub fn digest_of(&self, input: &Bytes) -> Option<Digest>
+        ensures { IfSome result (λ digest. digest ≡ input_digest input.now) }
+    {
+        if self.input.as_slice() == input.as_slice() {
+            Some(self.digest)
+        } else {
+            None
+        }
+    }
+
     /// Its digest.
     pub fn digest(&self) -> &Digest
         ensures { result.now ≡ input_digest self.now }
@@ -63,15 +74,7 @@ impl Hashed {
 }
 
 /// The input of the digest of a value.
-#[tactic(auto, unfolding(faust_hash::specs::Chain::value_digest_of, faust_hash::specs::Chain::input_digest))]
-pub fn value_hashed(alloc: Global, value: &[u8]) -> Result<Hashed, OutOfMemory>
-    ensures { IfOk result (λ hashed. hashed ≡ value_input value.now) }
-{
-    let input = value_input(alloc, value)?;
-    Ok(Hashed::new(input, value_digest(value)))
-}
-
-fn value_input(alloc: Global, value: &[u8]) -> Result<Bytes, OutOfMemory>
+pub fn value_input(alloc: Global, value: &[u8]) -> Result<Bytes, OutOfMemory>
     ensures { IfOk result (λ input. input ≡ value_input value.now) }
 {
     let mut input = Sequence::new(alloc);

@@ -13,6 +13,7 @@
 
 mod answers;
 mod body_set;
+mod book;
 mod breaking;
 mod checked;
 mod collected;

@@ -6,11 +6,12 @@ ghost use Rattle.faust_record.specs.Entries.{replay};
 ghost use Rattle.faust_record.specs.Made.{made_bodies};
 ghost use Rattle.faust_record.specs.Runs.{entries_of};
 ghost use Rattle.faust_record.specs.declared.entry.Entry.{Entry};
-ghost use Rattle.faust_premises.specs.Premises.{checked_pairs, is_right};
+ghost use Rattle.faust_premises.specs.Premises.{checked_pairs};
 ghost use Rattle.faust_audit.specs.Audited.{pair_told};
 ghost use Rattle.faust_audit.specs.Watching.{watched_of};
 
 use crate::answers::{Bodies, Pair, Pairs};
+use crate::book::Book;
 use crate::checked::{Checked, checked_of};
 use crate::making::bodies_made;
 use crate::reading::reply_of;
@@ -39,7 +40,8 @@ fn pairs_of(alloc: Global, config: &Config, entry: &Entry) -> Result<Pairs, OutO
 {
     let key = PreparedKey::new(config.key.as_slice());
     let reply = reply_of(alloc, config, &entry.input)?;
-    let checked = checked_of(alloc, config, &entry.input, &reply)?;
+    let mut book = Book::new(alloc);
+    let checked = checked_of(alloc, &mut book, config, &entry.input, &reply)?;
     let pairs = all_told(alloc, &key, &checked)?;
     Ok(pairs)
 }
@@ -76,22 +78,29 @@ pub fn made(alloc: Global, rec: &RunRecord, q: u64) -> Result<Bodies, OutOfMemor
     let Some(entry) = rec.entry(q) else {
         return Ok(Sequence::new(alloc));
     };
-    let watched = watched_before(alloc, rec, entry.client, q)?;
+    let mut book = Book::new(alloc);
+    let watched = watched_before(alloc, &mut book, rec, entry.client, q)?;
     let reply = reply_of(alloc, config, &entry.input)?;
-    let seen = watched.see(alloc, entry.client, entry, &reply)?;
+    let seen = watched.see(alloc, &mut book, entry.client, entry, &reply)?;
     let bodies = bodies_made(alloc, entry.client, &watched, &seen.moved, &entry.outcome)?;
     Ok(bodies)
 }
 
 // What is kept of client i before entry q.
-fn watched_before(alloc: Global, rec: &RunRecord, i: u8, q: u64) -> Result<Watched, OutOfMemory>
+fn watched_before(
+    alloc: Global,
+    book: &mut Book,
+    rec: &RunRecord,
+    i: u8,
+    q: u64,
+) -> Result<Watched, OutOfMemory>
     requires place { q < length rec.now.entries }
     requires client { IsClient rec.now.config.clients i }
     ensures { IfOk result (λ watched. watched ≡ watched_of i (replay rec.now.config i (entries_of i (take q rec.now.entries)))) }
 {
     let mut watched = Watched::new(alloc, rec.config().clients)?;
     for p in 0..q {
-        pass_by(alloc, rec, i, p, &mut watched)?;
+        pass_by(alloc, book, rec, i, p, &mut watched)?;
     }
     Ok(watched)
 }
@@ -99,6 +108,7 @@ fn watched_before(alloc: Global, rec: &RunRecord, i: u8, q: u64) -> Result<Watch
 // What is kept of client i behind entry p, where this was kept before it.
 fn pass_by(
     alloc: Global,
+    book: &mut Book,
     rec: &RunRecord,
     i: u8,
     p: u64,
@@ -117,7 +127,7 @@ fn pass_by(
         return Ok(());
     }
     let reply = reply_of(alloc, config, &entry.input)?;
-    let seen = watched.see(alloc, i, entry, &reply)?;
+    let seen = watched.see(alloc, book, i, entry, &reply)?;
     watched.go_on(seen.moved);
     Ok(())
 }

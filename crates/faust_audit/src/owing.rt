@@ -4,7 +4,7 @@ ghost use Rattle.faust_types.specs.Ranges.{IsCommitFor, IsConfig, IsReplyFor, Is
 ghost use Rattle.faust_wire.specs.Grammar.{reply_bytes};
 ghost use Rattle.faust_wire.specs.Reading.{message_of};
 ghost use Rattle.faust_server.specs.Rows.{committed, submitted};
-ghost use Rattle.faust_audit.specs.Owing.{IsDebtFor, debt_after, debt_handed, debt_owing, debt_served, debt_settled, debt_told, due_to, first_debt, is_next, misses, next_due};
+ghost use Rattle.faust_audit.specs.Owing.{IsDebtFor, debt_after, debt_handed, debt_owing, debt_served, debt_settled, debt_told, first_debt, is_next, misses, next_due};
 
 use faust_record::{Entry, Input};
 use faust_server::{Server, ServerError};

@@ -53,7 +53,13 @@ impl Pass {
             Steps result config.now before entry.now self.new }
     {
         let reply = reply_of(alloc, config, &entry.input)?;
-        let checked = checked_of(alloc, config, &entry.input, &reply)?;
+        let checked = checked_of(
+            alloc,
+            &mut self.collected.book,
+            config,
+            &entry.input,
+            &reply,
+        )?;
         if let Some(body) = self.collected.first_forged(key, &checked)? {
             return Ok(Some(body));
         }

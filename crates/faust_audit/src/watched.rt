@@ -3,8 +3,9 @@ ghost use Rattle.std.specs.Prelude.{◌≡◌, None, IfOk, IfSome};
 ghost use Rattle.faust_types.specs.Clients.{IsClient, IsClientCount};
 ghost use Rattle.faust_types.specs.Versions.{clients_of, initial};
 
+use crate::book::Book;
 use crate::completion::complete;
-use crate::hashed_input::{Hashed, value_hashed};
+use crate::hashed_input::Hashed;
 use faust_record::{Entry, Input};
 use faust_types::{Digest, Kind, OpName, Operation, OutOfMemory, Reply, Sequence, Version};
 use std::alloc::Global;
@@ -73,6 +74,7 @@ impl Watched {
     pub fn see(
         &self,
         alloc: Global,
+        book: &mut Book,
         me: u8,
         entry: &Entry,
         reply: &Option<Reply>,
@@ -83,13 +85,13 @@ impl Watched {
         ensures moved { IfOk result (λ seen. IsMoveFor (clients_of self.now.own) seen.moved) }
     {
         match &entry.input {
-            Input::Write(value) => self.see_write(alloc, me, value.as_slice()),
+            Input::Write(value) => self.see_write(alloc, book, me, value.as_slice()),
             Input::Read(register) => {
                 let op = self.next_operation(me, Kind::Read, *register);
                 Ok(Seen::begins(alloc, op))
             }
             Input::Reply(_) => match (reply, &entry.outcome.answer) {
-                (Some(reply), Some(_)) => complete(alloc, me, reply),
+                (Some(reply), Some(_)) => complete(alloc, book, me, reply),
                 _ => Ok(Seen::nothing(alloc)),
             },
             Input::Tick(_) => match entry.outcome.began {
@@ -101,11 +103,17 @@ impl Watched {
     }
 
     #[tactic(auto, unfolding(faust_hash::specs::Chain::value_digest_of, faust_hash::specs::Chain::input_digest))]
-    fn see_write(&self, alloc: Global, me: u8, value: &[u8]) -> Result<Seen, OutOfMemory>
+    fn see_write(
+        &self,
+        alloc: Global,
+        book: &mut Book,
+        me: u8,
+        value: &[u8],
+    ) -> Result<Seen, OutOfMemory>
         requires { IsClient (clients_of self.now.own) me }
         ensures { IfOk result (λ seen. seen ≡ write_seen me self.now value.now) }
     {
-        let hashed = value_hashed(alloc, value)?;
+        let hashed = book.value(alloc, value)?;
         let written = Some(*hashed.digest());
         let op = self.next_operation(me, Kind::Write, me);
         let mut all = Sequence::new(alloc);
