@@ -1,0 +1,6 @@
+pub mod Words
+pub mod Texts
+pub mod Forms
+pub mod Reading
+pub mod InRange
+pub mod Kept
