@@ -20,7 +20,7 @@ mod word;
 
 pub use entry_line::{EntryLine, end_number, is_number_of, read_entry, taken};
 pub use error::StoreError;
-pub use laws::{printed_records_are_read, records_are_runs};
+pub use laws::{printed_records_are_read, records_are_runs, records_are_their_texts};
 pub use printing::print_record;
 pub use reading::read_record;
 pub use stage::{MAX_RECORD_ENTRIES, Stage};
