@@ -1,21 +1,21 @@
 -- The lines of a record, one by one.
 use Rattle.std.proofs.Common.{◌≡◌, ℕ, ◌^◌, ◌+◌, ◌<◌, ◌≤◌, Bool, true, false, cond, leb, ltb, List, [], ◌∷◌, ◌++◌, length, Option, Some, None, Result, Ok, Err, refl, sym, ap, ◌∙◌, subst, ◌⊎◌, inl, inr, arith, append_assoc, length-append}
-use Rattle.std.specs.Prelude.{codes}
+use Rattle.std.specs.Prelude.{codes, ◌&&◌}
 use Rattle.std.specs.Fmt.{decimal}
 use Rattle.std.specs.List.{AllByRecursion}
 use Rattle.std.specs.Str.{bytes_eq}
 use Rattle.std.proofs.lemmas.List.{append-nil}
-use Rattle.std.proofs.lemmas.Bool.{both_ways, cond-false, cond-true, le-ltb, ltb-false, leb-false, lt-leb}
+use Rattle.std.proofs.lemmas.Bool.{and_from, and_parts, both_ways, cond-false, cond-true, le-ltb, ltb-false, leb-false, lt-leb}
 use Rattle.std.proofs.lemmas.Slice.Eq.{bytes_eq-Decides}
 use Rattle.faust_types.specs.declared.config.Config.{Config}
 use Rattle.faust_text.specs.declared.cause.Cause.{Cause}
 use Rattle.faust_text.specs.declared.cause.Cause.TheVariants as causes
-use Rattle.faust_text.specs.Fields.{fields_at, ◌>>=◌}
+use Rattle.faust_text.specs.Fields.{◌>>=◌}
 use Rattle.faust_text.specs.Lines.{TextLine, ended_lines, whole_line}
 use Rattle.faust_text.specs.Numbers.{is_number}
 use Rattle.faust_text.specs.Spelled.{SpellsFields}
 use Rattle.faust_text.specs.Tokens.{tokens_of}
-use Rattle.faust_text.proofs.FieldLaws.{bind_ok, fields_spell, ok_same}
+use Rattle.faust_text.proofs.FieldLaws.{bind_ok, ok_same}
 use Rattle.faust_text.proofs.NumberLaws.{is_number-decimal}
 use Rattle.faust_record.specs.Refusals.{recorded}
 use Rattle.faust_record.specs.Runs.{IsRun, Run}
@@ -24,9 +24,9 @@ use Rattle.faust_record.proofs.Again.{entries_are_pushed}
 use Rattle.faust_store.specs.declared.entry_line.EntryLine.{EntryLine}
 use Rattle.faust_store.specs.declared.stage.Stage.{Stage}
 use Rattle.faust_store.specs.declared.stage.Stage.TheVariants as stages
-use Rattle.faust_store.specs.Forms.{end_form, end_number, entry_at, number_given}
+use Rattle.faust_store.specs.Forms.{end_number, entry_at}
 use Rattle.faust_store.specs.Reading.{and_then_lines, ended_or, entry_taken, finished, is_number_of, lines_from, numbered, stage_at, taken, text_at}
-use Rattle.faust_store.specs.Records.{AreEntryLines, IsEndLine, SpellsEntry}
+use Rattle.faust_store.specs.Records.{AreEntryLines, IsEndLine, SpellsEntry, end_form}
 use Rattle.faust_store.proofs.Arrivals.{entry_behind}
 use Rattle.faust_store.proofs.Ranges.{entry_in_range}
 use Rattle.faust_store.proofs.Spelling.{entry_found, entry_only}
@@ -90,22 +90,30 @@ unfolding lines_from
 ended_found run number = refl
 
 -- The last line.
-number_given-only : (r : Result (List ℕ) Cause) (token : List ℕ) → number_given r ≡ Some token → r ≡ Ok token
-number_given-only (Ok found) token is = let same : found ≡ token = cc in ap Ok same
-number_given-only (Err cause) token is = absurd (cc)
+some_token : (x y : List ℕ) → (let left : Option (List ℕ) = Some x in left ≡ Some y) → x ≡ y
+some_token x y same = cc
 
 end_only : (tokens : List (List ℕ)) (token : List ℕ) → end_number tokens ≡ Some token → SpellsFields end_form (tt, (token, tt)) tokens
 unfolding end_number
-end_only tokens token is =
-    let found = number_given-only (fields_at end_form tokens >>= (λ given. Ok given.1.0)) token is in
-    let given = bind_ok (fields_at end_form tokens) (λ given. Ok given.1.0) token found in
-    let spelled = (fields_spell end_form tokens given.0).0 given.1 in
-    subst (λ (t : List ℕ). SpellsFields end_form (tt, (t, tt)) tokens) (ok_same given.0.1.0 token given.2) spelled
+end_only [] token is = absurd (cc)
+end_only (name ∷ []) token is = absurd (cc)
+end_only (name ∷ found ∷ []) token is =
+    elim (chosen (bytes_eq name (codes "end") && is_number found) (Some found) None (Some token) is) [
+      | inl both ↦
+          let parts = and_parts (bytes_eq name (codes "end")) (is_number found) both.0 in
+          ((bytes_eq-Decides name (codes "end")).0 parts.0, ((parts.1, sym (some_token found token both.1)), tt))
+      | inr other ↦ absurd (let e = other.1 in cc)
+    ]
+end_only (name ∷ found ∷ next ∷ tokens) token is = absurd (cc)
 
 end_found : (tokens : List (List ℕ)) (token : List ℕ) → SpellsFields end_form (tt, (token, tt)) tokens → end_number tokens ≡ Some token
 unfolding end_number
-end_found tokens token spelled =
-    ap (λ r. number_given (r >>= (λ given. Ok given.1.0))) ((fields_spell end_form tokens (tt, (token, tt))).1 spelled)
+end_found [] token spelled = absurd spelled
+end_found (name ∷ []) token spelled = absurd spelled.1
+end_found (name ∷ found ∷ []) token spelled =
+    let both = and_from (bytes_eq name (codes "end")) (is_number found) ((bytes_eq-Decides name (codes "end")).1 spelled.0) spelled.1.0.0 in
+    cond-true (bytes_eq name (codes "end") && is_number found) (Some found) None both ∙ ap Some (sym spelled.1.0.1)
+end_found (name ∷ found ∷ next ∷ tokens) token spelled = absurd spelled.1.1
 
 abbrev pub end_text : List ℕ
 end_text = codes "end"

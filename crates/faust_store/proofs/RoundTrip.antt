@@ -27,9 +27,8 @@ use Rattle.faust_record.specs.declared.entry.Input.{Input}
 use Rattle.faust_record.specs.declared.entry.Input.TheVariants as inputs
 use Rattle.faust_record.specs.declared.entry.Entry.{Entry}
 use Rattle.faust_store.specs.declared.word.EntryWord.TheVariants as words
-use Rattle.faust_store.specs.Forms.{end_form}
 use Rattle.faust_store.specs.Reading.{read, record_form}
-use Rattle.faust_store.specs.Records.{AreEntryLines, IsEndLine, IsLineText, IsRecordText, SpellsArrival, SpellsEntry, SpellsInput}
+use Rattle.faust_store.specs.Records.{AreEntryLines, IsEndLine, IsLineText, IsRecordText, SpellsArrival, SpellsEntry, SpellsInput, end_form}
 use Rattle.faust_store.specs.Texts.{IsTextVersion, end_line, entry_line, entry_lines, input_tokens, record_lines, record_text}
 use Rattle.faust_store.specs.Words.{word_text}
 use Rattle.faust_store.proofs.Arrivals.{IsEntryBehind, due-handed_in, entry_behind}

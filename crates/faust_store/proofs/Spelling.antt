@@ -18,7 +18,7 @@ use Rattle.faust_store.specs.declared.entry_line.EntryLine.TheVariants as lines
 use Rattle.faust_store.specs.declared.word.EntryWord.{EntryWord}
 use Rattle.faust_store.specs.declared.word.EntryWord.TheVariants as words
 use Rattle.faust_store.specs.Forms.{arrival_by, begin_form, begun_by, bytes_form, client, client_form, entry_at, line_at, line_by, line_named, tick_form}
-use Rattle.faust_store.specs.Records.{read_form, worded, write_form}
+use Rattle.faust_store.specs.Records.{SpellsLine}
 use Rattle.faust_store.specs.Words.{entry_word, entry_words, word_text}
 
 -- The word that a token names is spelled so.
@@ -80,16 +80,6 @@ next_only field (token ∷ tokens) x found =
     let given = bind_ok (field_at field token) (λ g. Ok (g, tokens)) x found in
     subst (λ (y : Given field × List (List ℕ)). FirstToken field (token ∷ tokens) y) (ok_same (given.0, tokens) x given.2)
     (record { token = token; tokens_are = refl; spelled = (field_spells field token given.0).0 given.1 })
-
--- The tokens spell what a line says.
-abbrev pub SpellsLine : ℕ → ℕ → EntryLine → List (List ℕ) → Type 0
-SpellsLine version n (lines.Comes i (inputs.Write v)) tokens = SpellsFields (write_form n) (tt, (i, (kinds.Write, (v, tt)))) tokens
-SpellsLine version n (lines.Comes i (inputs.Read j)) tokens = SpellsFields (read_form n) (tt, (i, (kinds.Read, (j, tt)))) tokens
-SpellsLine version n (lines.Comes i (inputs.Reply b)) tokens = SpellsFields (worded words.Reply (bytes_form n)) (tt, (i, (b, tt))) tokens
-SpellsLine version n (lines.Comes i (inputs.Peer b)) tokens = SpellsFields (worded words.Peer (bytes_form n)) (tt, (i, (b, tt))) tokens
-SpellsLine version n (lines.Comes i (inputs.Tick m)) tokens = SpellsFields (worded words.Tick (tick_form n)) (tt, (i, (m, tt))) tokens
-SpellsLine version n (lines.Comes i inputs.Arrive) tokens = ((version == 1) ≡ true) × SpellsFields (worded words.Arrive (client_form n)) (tt, (i, tt)) tokens
-SpellsLine version n (lines.Arrives i b) tokens = ((version == 1) ≡ false) × SpellsFields (worded words.Arrive (bytes_form n)) (tt, (i, (b, tt))) tokens
 
 -- What is spelled is read.
 abbrev begun_behind : ℕ → (ℕ × List (List ℕ)) → Result EntryLine Cause
@@ -217,6 +207,7 @@ entry_found version n line token tokens digits spelled =
 pub record EntryTokens (version n : ℕ) (tokens : List (List ℕ)) (given : List ℕ × EntryLine) : Type 0 where
   pub behind : List (List ℕ)
   pub tokens_are : tokens ≡ given.0 ∷ behind
+  pub digits : SpellsField any_number given.0 given.0
   pub spelled : SpellsLine version n given.1 behind
 
 pub entry_only : (version n : ℕ) (tokens : List (List ℕ)) (given : List ℕ × EntryLine) → entry_at version n tokens ≡ Ok given
@@ -230,5 +221,6 @@ entry_only version n tokens given found =
     (record {
       behind = q.0.1;
       tokens_are = first.tokens_are ∙ ap (λ t. t ∷ q.0.1) (sym first.spelled.1);
+      digits = (ap is_number first.spelled.1 ∙ first.spelled.0, refl);
       spelled = line_only version n line.0 q.0.1 line.1;
     })

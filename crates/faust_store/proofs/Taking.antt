@@ -29,8 +29,7 @@ use Rattle.faust_store.specs.declared.entry_line.EntryLine.TheVariants as lines
 use Rattle.faust_store.specs.InRange.{IsLineFor}
 use Rattle.faust_store.specs.Kept.{arrival_of, last_arrival}
 use Rattle.faust_store.specs.Reading.{arriving_as, cause_of_push, framed, is_due, pushed, taken}
-use Rattle.faust_store.specs.Records.{SpellsArrival, SpellsInput}
-use Rattle.faust_store.proofs.Spelling.{SpellsLine}
+use Rattle.faust_store.specs.Records.{SpellsArrival, SpellsInput, SpellsLine}
 
 -- What the line of an entry says.
 abbrev pub said_as : ℕ → ℕ → Input → EntryLine

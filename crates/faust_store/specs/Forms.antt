@@ -1,10 +1,12 @@
 -- The lines of entries: a number, a word and its fields, and what they say. Reading cites this table.
-use Rattle.std.specs.Prelude.{ℕ, ◌^◌, ◌-◌, ◌==◌, cond, List, [], ◌∷◌, codes, Option, Some, None, Result, Ok, Err}
+use Rattle.std.specs.Prelude.{ℕ, ◌^◌, ◌-◌, ◌==◌, ◌&&◌, cond, List, [], ◌∷◌, codes, Option, Some, None, Result, Ok, Err}
+use Rattle.std.specs.Str.{bytes_eq}
 use Rattle.faust_types.specs.declared.operation.Kind.{Kind}
 use Rattle.faust_types.specs.declared.operation.Kind.TheVariants as kinds
 use Rattle.faust_text.specs.declared.cause.Cause.{Cause}
 use Rattle.faust_text.specs.declared.cause.Cause.TheVariants as causes
-use Rattle.faust_text.specs.Fields.{Field, number, any_number, word, kind, value, bytes, fields_at, next_field, ◌>>=◌}
+use Rattle.faust_text.specs.Fields.{Field, number, any_number, kind, value, bytes, fields_at, next_field, ◌>>=◌}
+use Rattle.faust_text.specs.Numbers.{is_number}
 use Rattle.faust_record.specs.declared.run_record.PushInput.TheVariants as inputs
 use Rattle.faust_store.specs.declared.entry_line.EntryLine.{EntryLine}
 use Rattle.faust_store.specs.declared.entry_line.EntryLine.TheVariants as lines
@@ -18,10 +20,6 @@ client n = number 1 n
 
 abbrev pub moment : Field
 moment = number 0 (2 ^ 40 - 1)
-
--- The last line of a record: `end`, and how many entries there are, by any number.
-abbrev pub end_form : List Field
-end_form = word (codes "end") ∷ any_number ∷ []
 
 -- The entries: a word and its fields. A beginning has a client and a kind, and then what is written or read; an arrival
 -- has its message under version 2 alone.
@@ -68,10 +66,10 @@ line_at version n (token ∷ tokens) = line_named version n (entry_word token) t
 unfoldable pub entry_at : ℕ → ℕ → List (List ℕ) → Result (List ℕ × EntryLine) Cause
 entry_at version n tokens = next_field any_number tokens >>= λ q. line_at version n q.1 >>= λ line. Ok (q.0, line)
 
--- The number of an end line, by its digits: there is none where the tokens are no end line.
-abbrev pub number_given : Result (List ℕ) Cause → Option (List ℕ)
-number_given (Ok token) = Some token
-number_given (Err cause) = None
-
+-- The number of an end line, by its digits: the tokens are `end` and a number, however great. There is none where the
+-- tokens are no end line.
 unfoldable pub end_number : List (List ℕ) → Option (List ℕ)
-end_number tokens = number_given (fields_at end_form tokens >>= λ given. Ok given.1.0)
+end_number [] = None
+end_number (name ∷ []) = None
+end_number (name ∷ token ∷ []) = cond (bytes_eq name (codes "end") && is_number token) (Some token) None
+end_number (name ∷ token ∷ next ∷ tokens) = None

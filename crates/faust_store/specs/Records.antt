@@ -1,9 +1,9 @@
 -- Which bytes are a run's record: the same as `specs/Reading.antt` in other words. A value may be spelled in both ways.
-use Rattle.std.specs.Prelude.{◌≡◌, ℕ, ◌==◌, ◌≤◌, Bool, true, false, List, [], ◌∷◌, ◌++◌, length}
+use Rattle.std.specs.Prelude.{◌≡◌, ℕ, ◌==◌, ◌≤◌, Bool, true, false, List, [], ◌∷◌, ◌++◌, length, codes}
 use Rattle.std.specs.Fmt.{decimal}
 use Rattle.std.specs.List.{AllByRecursion}
 use Rattle.faust_types.specs.declared.operation.Kind.TheVariants as kinds
-use Rattle.faust_text.specs.Fields.{Field, kind, value, word}
+use Rattle.faust_text.specs.Fields.{Field, any_number, kind, value, word}
 use Rattle.faust_text.specs.Heads.{AreHeadLines}
 use Rattle.faust_text.specs.Lines.{IsWithout, ended_text}
 use Rattle.faust_text.specs.Spelled.{SpellsFields}
@@ -12,9 +12,12 @@ use Rattle.faust_record.specs.Runs.{IsRun, Run}
 use Rattle.faust_record.specs.declared.entry.Input.{Input}
 use Rattle.faust_record.specs.declared.entry.Input.TheVariants as inputs
 use Rattle.faust_record.specs.declared.entry.Entry.{Entry}
+use Rattle.faust_record.specs.declared.run_record.PushInput.TheVariants as pushes
+use Rattle.faust_store.specs.declared.entry_line.EntryLine.{EntryLine}
+use Rattle.faust_store.specs.declared.entry_line.EntryLine.TheVariants as said
 use Rattle.faust_store.specs.declared.word.EntryWord.{EntryWord}
 use Rattle.faust_store.specs.declared.word.EntryWord.TheVariants as words
-use Rattle.faust_store.specs.Forms.{bytes_form, client, client_form, end_form, tick_form}
+use Rattle.faust_store.specs.Forms.{bytes_form, client, client_form, tick_form}
 use Rattle.faust_store.specs.Reading.{record_form}
 use Rattle.faust_store.specs.Words.{word_text}
 
@@ -42,6 +45,17 @@ SpellsInput version n i (inputs.Peer b) tokens = SpellsFields (worded words.Peer
 SpellsInput version n i (inputs.Tick m) tokens = SpellsFields (worded words.Tick (tick_form n)) (tt, (i, (m, tt))) tokens
 SpellsInput version n i (inputs.Arrive message) tokens = SpellsArrival (version == 1) n i message tokens
 
+-- The tokens spell what a line says: what comes to a client of n, or an arrival alone under version 1, or an arrival with
+-- its message.
+abbrev pub SpellsLine : ℕ → ℕ → EntryLine → List (List ℕ) → Type 0
+SpellsLine version n (said.Comes i (pushes.Write v)) tokens = SpellsFields (write_form n) (tt, (i, (kinds.Write, (v, tt)))) tokens
+SpellsLine version n (said.Comes i (pushes.Read j)) tokens = SpellsFields (read_form n) (tt, (i, (kinds.Read, (j, tt)))) tokens
+SpellsLine version n (said.Comes i (pushes.Reply b)) tokens = SpellsFields (worded words.Reply (bytes_form n)) (tt, (i, (b, tt))) tokens
+SpellsLine version n (said.Comes i (pushes.Peer b)) tokens = SpellsFields (worded words.Peer (bytes_form n)) (tt, (i, (b, tt))) tokens
+SpellsLine version n (said.Comes i (pushes.Tick m)) tokens = SpellsFields (worded words.Tick (tick_form n)) (tt, (i, (m, tt))) tokens
+SpellsLine version n (said.Comes i pushes.Arrive) tokens = ((version == 1) ≡ true) × SpellsFields (worded words.Arrive (client_form n)) (tt, (i, tt)) tokens
+SpellsLine version n (said.Arrives i b) tokens = ((version == 1) ≡ false) × SpellsFields (worded words.Arrive (bytes_form n)) (tt, (i, (b, tt))) tokens
+
 -- The tokens spell an entry: its number stands first.
 abbrev pub SpellsEntry : ℕ → ℕ → Entry → List (List ℕ) → Type 0
 SpellsEntry version n entry [] = ⊥
@@ -53,6 +67,9 @@ AreEntryLines version n [] [] = Unit {0}
 AreEntryLines version n [] (text ∷ texts) = ⊥
 AreEntryLines version n (entry ∷ entries) [] = ⊥
 AreEntryLines version n (entry ∷ entries) (text ∷ texts) = SpellsEntry version n entry (tokens_of text) × AreEntryLines version n entries texts
+
+abbrev pub end_form : List Field
+end_form = word (codes "end") ∷ any_number ∷ []
 
 abbrev pub IsEndLine : ℕ → List ℕ → Type 0
 IsEndLine count text = SpellsFields end_form (tt, (decimal count, tt)) (tokens_of text)

@@ -11,7 +11,7 @@ ghost use Rattle.faust_store.specs.Reading.{arriving_as, is_number_of, pushed, t
 
 use crate::word::EntryWord;
 use faust_record::{Input, PushError, PushInput, RunRecord};
-use faust_text::{Cause, Cursor, LineError, number};
+use faust_text::{Cause, Cursor, LineError, is_number, number};
 use faust_types::{Bytes, Kind, MAX_TIMESTAMP};
 use std::alloc::Global;
 
@@ -175,16 +175,16 @@ pub fn end_number<'a>(line: &'a [u8]) -> Option<&'a [u8]>
     ensures { option_copied result ≡ end_number (tokens_of line.now) }
 {
     let mut cursor = Cursor::new(line);
-    if cursor.word(b"end").is_err() {
+    let name = cursor.token()?;
+    let token = cursor.token()?;
+    if cursor.token().is_some() {
         return None;
     }
-    let Ok(number) = cursor.any_number() else {
-        return None;
-    };
-    if cursor.end().is_err() {
-        return None;
+    if name == b"end".as_slice() && is_number(token) {
+        Some(token)
+    } else {
+        None
     }
-    Some(number)
 }
 
 /// Whether a token is this number, by its digits.
