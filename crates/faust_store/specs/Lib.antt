@@ -1,0 +1,7 @@
+pub mod Words
+pub mod Texts
+pub mod Forms
+pub mod Reading
+pub mod Records
+pub mod InRange
+pub mod Kept

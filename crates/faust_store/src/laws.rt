@@ -1,0 +1,30 @@
+// Laws of records, each on a function with an empty body.
+ghost use Rattle.std.specs.Prelude.{◌≡◌, ◌≤◌, ◌↔◌, ℕ, List, length, Ok};
+ghost use Rattle.faust_types.specs.Bytes.{AreBytes};
+ghost use Rattle.faust_record.specs.Runs.{IsRun, Run};
+ghost use Rattle.faust_store.specs.Reading.{read};
+ghost use Rattle.faust_store.specs.Records.{IsRecord, IsRecordText};
+ghost use Rattle.faust_store.specs.Texts.{IsTextVersion, record_text};
+
+/// Bytes are read as the run whose record they are, of either version, and no other bytes are read.
+#[tactic(auto, using(crate::proofs::RecordLaws::record_texts))]
+pub fn records_are_their_texts()
+    ensures { (input : List ℕ) (run : Run) → (read input ≡ Ok run) ↔ IsRecord run input }
+{}
+
+/// What is printed of a run is its record, and is read as this run again, under each version that there is of it.
+#[tactic(auto, using(crate::proofs::RoundTrip::printed_is_record, crate::proofs::RoundTrip::printed_read))]
+pub fn printed_records_are_read()
+    ensures record_text { (run : Run) (version : ℕ) → IsRun run.config run.entries → AreBytes run.config.key → length run.entries ≤ 20000 →
+        IsTextVersion version run.config.wire → IsRecordText version run (record_text run version) }
+    ensures read { (run : Run) (version : ℕ) → IsRun run.config run.entries → AreBytes run.config.key → length run.entries ≤ 20000 →
+        IsTextVersion version run.config.wire → read (record_text run version) ≡ Ok run }
+{}
+
+/// What is read is a run, with at most 20,000 entries and a key of bytes.
+#[tactic(auto, using(crate::proofs::RecordLaws::run_read, crate::proofs::RecordLaws::few_read, crate::proofs::RecordLaws::key_read))]
+pub fn records_are_runs()
+    ensures run { (input : List ℕ) (run : Run) → read input ≡ Ok run → IsRun run.config run.entries }
+    ensures few { (input : List ℕ) (run : Run) → read input ≡ Ok run → length run.entries ≤ 20000 }
+    ensures bytes { (input : List ℕ) (run : Run) → read input ≡ Ok run → AreBytes run.config.key }
+{}
