@@ -5,3 +5,5 @@ pub mod ScriptLaws
 pub mod RefusalLaws
 pub mod InRangeLaws
 pub mod GoingOn
+pub mod Steps
+pub mod Rounds

@@ -36,23 +36,23 @@ abbrev pub beginning : ℕ → ℕ → Progress
 beginning seed n = record { state = seed; begun = 0; actors = replicate n idle; events = [] }
 
 -- Operations may begin as long as fewer than all but the last of them have begun.
-abbrev pub is_open : ℕ → Progress → Bool
-is_open ops progress = nat_lt progress.begun (ops - 1)
+abbrev pub may_begin_one : ℕ → Progress → Bool
+may_begin_one ops progress = nat_lt progress.begun (ops - 1)
 
 -- A client can act within an operation, and where an operation may begin.
 abbrev pub can_act : Bool → Phase → Bool
-can_act open phases.Idle = open
-can_act open phases.Begun = true
-can_act open phases.Arrived = true
-can_act open phases.Replied = true
+can_act may_begin phases.Idle = may_begin
+can_act may_begin phases.Begun = true
+can_act may_begin phases.Arrived = true
+can_act may_begin phases.Replied = true
 
 -- The clients that can act, in ascending order, of these from the given client on.
 abbrev pub able_from : Bool → ℕ → List Actor → List ℕ
-able_from open client [] = []
-able_from open client (actor ∷ actors) = cond (can_act open actor.phase) (client ∷ able_from open (client + 1) actors) (able_from open (client + 1) actors)
+able_from may_begin client [] = []
+able_from may_begin client (actor ∷ actors) = cond (can_act may_begin actor.phase) (client ∷ able_from may_begin (client + 1) actors) (able_from may_begin (client + 1) actors)
 
 abbrev pub able : ℕ → Progress → List ℕ
-able ops progress = able_from (is_open ops progress) 1 progress.actors
+able ops progress = able_from (may_begin_one ops progress) 1 progress.actors
 
 -- A client comes to a phase by an event.
 abbrev pub with_event_of : ℕ → Actor → Event → Progress → Progress

@@ -25,7 +25,10 @@ pub use edit::Edit;
 pub use error::ScriptError;
 pub use event::Event;
 pub use generator::generate;
-pub use laws::{first_refused_lines, scripts_are_in_range, scripts_are_their_texts};
+pub use laws::{
+    first_refused_lines, generated_scripts_are_in_range, scripts_are_in_range,
+    scripts_are_their_texts, steps_end_where_no_client_can_act,
+};
 pub use line::read_event;
 pub use parser::parse;
 pub use script::{Events, MAX_EVENTS, Script};

@@ -1,6 +1,6 @@
-ghost use Rattle.std.specs.Prelude.{◌≡◌, ℕ, ◌+◌, ◌-◌, ◌<◌, ◌≤◌, ◌^◌, length, slice_index, slice_index_or, OnOk, IfOk};
+ghost use Rattle.std.specs.Prelude.{◌≡◌, ℕ, ◌+◌, ◌-◌, ◌<◌, ◌≤◌, ◌^◌, length, replicate, slice_index, OnOk, IfOk};
 ghost use Rattle.faust_types.specs.Clients.{IsClient};
-ghost use Rattle.faust_script.specs.Generated.{able, able_from, acted, acts, after_draw, answer, beginning, begins_drawn, begins_read, begins_with, can_act, drawn, idle, is_open, value_of, with_event_of};
+ghost use Rattle.faust_script.specs.Generated.{able, able_from, acted, acts, after_draw, answer, beginning, begins_drawn, begins_read, begins_with, can_act, drawn, idle, may_begin_one, value_of, with_event_of};
 ghost use Rattle.faust_script.specs.Stepping.{CanAct, CanStep};
 
 use crate::event::Event;
@@ -44,11 +44,11 @@ pub struct Progress {
 }
 
 impl Phase {
-    fn can_act(self, open: bool) -> bool
-        ensures { result ≡ can_act open self }
+    fn can_act(self, may_begin: bool) -> bool
+        ensures { result ≡ can_act may_begin self }
     {
         match self {
-            Phase::Idle => open,
+            Phase::Idle => may_begin,
             Phase::Begun | Phase::Arrived | Phase::Replied => true,
         }
     }
@@ -79,10 +79,10 @@ impl Progress {
         requires { CanStep clients ops self.old }
         ensures { OnOk result (self.new ≡ acted clients ops self.old) }
     {
-        let open = self.begun < ops - 1;
-        let able = able_count(self.actors.as_slice(), open);
+        let may_begin = self.begun < ops - 1;
+        let able = able_count(self.actors.as_slice(), may_begin);
         let place = self.draw() % able;
-        let client = able_at(self.actors.as_slice(), open, place);
+        let client = able_at(self.actors.as_slice(), may_begin, place);
         self.act(clients, client)
     }
 
@@ -162,12 +162,12 @@ fn idle_actors(alloc: Global, clients: u8) -> Result<Sequence<Actor>, OutOfMemor
 }
 
 /// How many clients can act.
-fn able_count(actors: &[Actor], open: bool) -> u64
-    ensures { result ≡ length (able_from open 1 actors.now) }
+fn able_count(actors: &[Actor], may_begin: bool) -> u64
+    ensures { result ≡ length (able_from may_begin 1 actors.now) }
 {
     let mut count = 0;
     for actor in actors {
-        if actor.phase.can_act(open) {
+        if actor.phase.can_act(may_begin) {
             count += 1;
         }
     }
@@ -175,16 +175,16 @@ fn able_count(actors: &[Actor], open: bool) -> u64
 }
 
 /// The client in that place, counted from 0, of those that can act.
-fn able_at(actors: &[Actor], open: bool, place: u64) -> u8
+fn able_at(actors: &[Actor], may_begin: bool, place: u64) -> u8
     requires few { length actors.now ≤ 32 }
-    requires within { place < length (able_from open 1 actors.now) }
-    ensures value { result ≡ slice_index (able_from open 1 actors.now) place }
+    requires within { place < length (able_from may_begin 1 actors.now) }
+    ensures value { result ≡ slice_index (able_from may_begin 1 actors.now) place }
 {
     let mut left = place;
     let mut client = 0;
     for actor in actors {
         client += 1;
-        if actor.phase.can_act(open) {
+        if actor.phase.can_act(may_begin) {
             if left == 0 {
                 return client;
             }
