@@ -8,7 +8,7 @@ use Rattle.faust_sim.specs.Play.{played}
 use Rattle.faust_sim.proofs.Lengths.{played_short}
 use Rattle.faust_store.specs.Reading.{read}
 use Rattle.faust_store.specs.Texts.{IsTextVersion}
-use Rattle.faust_store.proofs.RecordLaws.{few_read, run_read}
+use Rattle.faust_store.proofs.RecordLaws.{few_read}
 use Rattle.faust_top.specs.declared.accepting.Accepted.{Accepted}
 use Rattle.faust_top.specs.Output.{IsPrintable}
 use Rattle.faust_top.proofs.Configs.{played_config}
@@ -23,9 +23,10 @@ script_printable script run is plays kept =
       format_known = subst (λ (config : Config). IsTextVersion script.format config.wire) (sym (played_config script run plays)) is.format_known;
     }
 
-pub record_printable : (input : List ℕ) (run : Run) → read input ≡ Ok run → IsPrintable (record { run = run; format = 2 })
-record_printable input run is = record {
-  is_run = run_read input run is;
+pub record_printable : (input : List ℕ) (run : Run) → read input ≡ Ok run → IsRun run.config run.entries
+    → IsPrintable (record { run = run; format = 2 })
+record_printable input run is kept = record {
+  is_run = kept;
   few_entries = few_read input run is;
   format_known = inr refl;
 }

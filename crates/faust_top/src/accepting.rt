@@ -1,5 +1,6 @@
 // From the input of a command to the run that it speaks of.
 ghost use Rattle.std.specs.Prelude.{◌≡◌, IfOk};
+ghost use Rattle.faust_record.specs.Runs.{IsRun};
 ghost use Rattle.faust_script.specs.InRange.{IsScript};
 ghost use Rattle.faust_script.specs.Parsing.{parsed};
 ghost use Rattle.faust_script.specs.Generated.{IsSampleSize, generated};
@@ -33,11 +34,13 @@ pub enum AcceptError {
     OutOfMemory,
 }
 
-impl From<OutOfMemory> for AcceptError {
-    fn from(_: OutOfMemory) -> AcceptError
-        ensures { result ≡ AcceptError.OutOfMemory }
+impl Accepted {
+    fn new(run: RunRecord, format: u8) -> Accepted
+        ensures parts { result ≡ record { run = run; format = format } }
+        ensures is_run { IsRun run.config run.entries }
     {
-        AcceptError::OutOfMemory
+        let _config = run.config();
+        Accepted { run, format }
     }
 }
 
@@ -71,10 +74,7 @@ fn accept_played(alloc: Global, script: &Script) -> Result<Accepted, AcceptError
     ensures printable { IfOk result IsPrintable }
 {
     match play(alloc, script) {
-        Ok(run) => Ok(Accepted {
-            run,
-            format: script.format,
-        }),
+        Ok(run) => Ok(Accepted::new(run, script.format)),
         Err(PlayError::Cannot { line, cause }) => Err(AcceptError::Refused { line, cause }),
         Err(PlayError::OutOfMemory) => Err(AcceptError::OutOfMemory),
     }
@@ -85,7 +85,7 @@ fn accept_record(alloc: Global, input: &[u8]) -> Result<Accepted, AcceptError>
     ensures printable { IfOk result IsPrintable }
 {
     match read_record(alloc, input) {
-        Ok(run) => Ok(Accepted { run, format: 2 }),
+        Ok(run) => Ok(Accepted::new(run, 2)),
         Err(StoreError::BadRecord { line, cause }) => Err(AcceptError::Refused { line, cause }),
         Err(StoreError::OutOfMemory) => Err(AcceptError::OutOfMemory),
     }
@@ -96,6 +96,8 @@ fn accept_generated(alloc: Global, seed: u64, clients: u8, ops: u64) -> Result<A
     ensures accepts { Accepts result (script_played (generated seed clients ops)) }
     ensures printable { IfOk result IsPrintable }
 {
-    let script = generate(alloc, seed, clients, ops)?;
-    accept_played(alloc, &script)
+    match generate(alloc, seed, clients, ops) {
+        Ok(script) => accept_played(alloc, &script),
+        Err(OutOfMemory) => Err(AcceptError::OutOfMemory),
+    }
 }

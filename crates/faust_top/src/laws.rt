@@ -6,7 +6,6 @@ ghost use Rattle.faust_top.specs.declared.words.Command.{Command};
 ghost use Rattle.faust_types.specs.declared.status.Status.{Status};
 
 /// Words are the form of one command at most.
-#[tactic(auto, using(crate::proofs::CommandLaws::one_command))]
 pub fn words_have_one_command()
     ensures { (words : List (List ℕ)) (command other : Command) → IsForm words command → IsForm words other → command ≡ other }
 {}
