@@ -7,4 +7,6 @@ pub mod LineSteps
 pub mod RecordLaws
 pub mod Tokens
 pub mod RoundTrip
-pub mod Printing
+pub mod PrintedText
+pub mod Counting
+pub mod RefusalLaws

@@ -93,7 +93,7 @@ ended_found run number = refl
 some_token : (x y : List ℕ) → (let left : Option (List ℕ) = Some x in left ≡ Some y) → x ≡ y
 some_token x y same = cc
 
-end_only : (tokens : List (List ℕ)) (token : List ℕ) → end_number tokens ≡ Some token → SpellsFields end_form (tt, (token, tt)) tokens
+pub end_only : (tokens : List (List ℕ)) (token : List ℕ) → end_number tokens ≡ Some token → SpellsFields end_form (tt, (token, tt)) tokens
 unfolding end_number
 end_only [] token is = absurd (cc)
 end_only (name ∷ []) token is = absurd (cc)
@@ -106,7 +106,7 @@ end_only (name ∷ found ∷ []) token is =
     ]
 end_only (name ∷ found ∷ next ∷ tokens) token is = absurd (cc)
 
-end_found : (tokens : List (List ℕ)) (token : List ℕ) → SpellsFields end_form (tt, (token, tt)) tokens → end_number tokens ≡ Some token
+pub end_found : (tokens : List (List ℕ)) (token : List ℕ) → SpellsFields end_form (tt, (token, tt)) tokens → end_number tokens ≡ Some token
 unfolding end_number
 end_found [] token spelled = absurd spelled
 end_found (name ∷ []) token spelled = absurd spelled.1
@@ -122,7 +122,7 @@ end_text = codes "end"
 no_number : is_number end_text ≡ false
 no_number = refl
 
-none_or_some : (o : Option (List ℕ)) → (o ≡ None) ⊎ ((x : List ℕ) × (o ≡ Some x))
+pub none_or_some : (o : Option (List ℕ)) → (o ≡ None) ⊎ ((x : List ℕ) × (o ≡ Some x))
 none_or_some None = inl refl
 none_or_some (Some x) = inr (x, refl)
 

@@ -156,3 +156,12 @@ head_kept head tokens step kept found =
     let read = head_step-only record_form head tokens step found in
     subst IsStep read.next_is
     (line_kept head read.given kept (fields_in_range (due_form record_form head) read.given tokens read.spelled))
+
+pub head_goes_on : (head next : Head) (tokens : List (List ℕ)) → IsHead head → head_at record_form head tokens ≡ Ok (Next next) → IsHead next
+head_goes_on head next tokens kept found = head_kept head tokens (Next next) kept found
+
+pub config_kept : (head : Head) (version : ℕ) (config : Config) (tokens : List (List ℕ)) → IsHead head
+    → head_at record_form head tokens ≡ Ok (Whole version config) → IsConfig config
+config_kept head version config tokens kept found =
+    let whole : IsWhole version config = head_kept head tokens (Whole version config) kept found in
+    whole.config_in_range

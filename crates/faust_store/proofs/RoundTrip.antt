@@ -1,5 +1,5 @@
 -- What is printed of a run is its record, and so is read as this run again.
-use Rattle.std.proofs.Common.{◌≡◌, ℕ, ◌^◌, ◌+◌, ◌*◌, ◌<◌, ◌≤◌, Bool, true, false, cond, List, [], ◌∷◌, ◌++◌, length, Some, Ok, refl, sym, ap, ◌∙◌, subst, ◌⊎◌, inl, inr, arith, append_assoc, length-append}
+use Rattle.std.proofs.Common.{◌≡◌, ℕ, ◌^◌, ◌+◌, ◌-◌, ◌*◌, ◌<◌, ◌≤◌, suc, Bool, true, false, cond, List, [], ◌∷◌, ◌++◌, length, Some, Ok, refl, sym, ap, ◌∙◌, subst, ◌⊎◌, inl, inr, arith, lit≤, append_assoc, length-append}
 use Rattle.std.specs.Prelude.{codes, ◌==◌, IfSome}
 use Rattle.std.specs.Fmt.{decimal}
 use Rattle.std.specs.List.{AllByRecursion}
@@ -12,7 +12,7 @@ use Rattle.faust_types.specs.Ranges.{IsConfig}
 use Rattle.faust_types.specs.declared.config.Config.{Config}
 use Rattle.faust_types.specs.declared.operation.Kind.TheVariants as kinds
 use Rattle.faust_text.specs.declared.head.Title.TheVariants as titles
-use Rattle.faust_text.specs.Heads.{CanBeHead, head_lines, named_number, title_line, wire_lines}
+use Rattle.faust_text.specs.Heads.{CanBeHead, head_lines, head_text, named_number, title_line, wire_lines}
 use Rattle.faust_text.specs.Lines.{IsWithout}
 use Rattle.faust_text.specs.Spelled.{SpellsFields}
 use Rattle.faust_text.specs.Tokens.{joined, tokens_of}
@@ -55,15 +55,15 @@ arrival_printed true n i message most client are =
     let fits = small n i most client in
     record {
       spelled = (refl, (number_spelled 1 n i client.from_one client.to_n fits, tt));
-      joinable = (middle_word (word_text words.Arrive) refl refl (omega arith), as_last (decimal i) (middle_number i fits));
-      few = omega arith;
+      joinable = (middle_word (word_text words.Arrive) refl refl (lit≤ tt), as_last (decimal i) (middle_number i fits));
+      few = lit≤ tt;
     }
 arrival_printed false n i message most client are =
     let fits = small n i most client in
     record {
       spelled = (refl, (number_spelled 1 n i client.from_one client.to_n fits, ((refl, are.sized, are.bytes_each), tt)));
-      joinable = (middle_word (word_text words.Arrive) refl refl (omega arith), (middle_number i fits, last_bytes message are));
-      few = omega arith;
+      joinable = (middle_word (word_text words.Arrive) refl refl (lit≤ tt), (middle_number i fits, last_bytes message are));
+      few = lit≤ tt;
     }
 
 input_printed : (version : ℕ) (config : Config) (i : ℕ) (st : Client) (input : Input) → config.clients ≤ 32
@@ -73,9 +73,9 @@ input_printed version config i st (inputs.Write value) most client may handed =
     let fits = small config.clients i most client in
     record {
       spelled = (refl, (number_spelled 1 config.clients i client.from_one client.to_n fits, (refl, (value_spelled value may.value_in_range, tt))));
-      joinable = (middle_word (word_text words.Begin) refl refl (omega arith), (middle_number i fits,
-          (middle_word (codes "write") refl refl (omega arith), last_value value may.value_in_range)));
-      few = omega arith;
+      joinable = (middle_word (word_text words.Begin) refl refl (lit≤ tt), (middle_number i fits,
+          (middle_word (codes "write") refl refl (lit≤ tt), last_value value may.value_in_range)));
+      few = lit≤ tt;
     }
 input_printed version config i st (inputs.Read register) most client may handed =
     let fits = small config.clients i most client in
@@ -84,23 +84,23 @@ input_printed version config i st (inputs.Read register) most client may handed 
     record {
       spelled = (refl, (number_spelled 1 config.clients i client.from_one client.to_n fits,
           (refl, (number_spelled 1 config.clients register range.from_one range.to_n register_fits, tt))));
-      joinable = (middle_word (word_text words.Begin) refl refl (omega arith), (middle_number i fits,
-          (middle_word (codes "read") refl refl (omega arith), as_last (decimal register) (middle_number register register_fits))));
-      few = omega arith;
+      joinable = (middle_word (word_text words.Begin) refl refl (lit≤ tt), (middle_number i fits,
+          (middle_word (codes "read") refl refl (lit≤ tt), as_last (decimal register) (middle_number register register_fits))));
+      few = lit≤ tt;
     }
 input_printed version config i st (inputs.Reply bytes) most client may handed =
     let fits = small config.clients i most client in
     record {
       spelled = (refl, (number_spelled 1 config.clients i client.from_one client.to_n fits, ((refl, may.sized, may.bytes_each), tt)));
-      joinable = (middle_word (word_text words.Reply) refl refl (omega arith), (middle_number i fits, last_bytes bytes may));
-      few = omega arith;
+      joinable = (middle_word (word_text words.Reply) refl refl (lit≤ tt), (middle_number i fits, last_bytes bytes may));
+      few = lit≤ tt;
     }
 input_printed version config i st (inputs.Peer bytes) most client may handed =
     let fits = small config.clients i most client in
     record {
       spelled = (refl, (number_spelled 1 config.clients i client.from_one client.to_n fits, ((refl, may.sized, may.bytes_each), tt)));
-      joinable = (middle_word (word_text words.Peer) refl refl (omega arith), (middle_number i fits, last_bytes bytes may));
-      few = omega arith;
+      joinable = (middle_word (word_text words.Peer) refl refl (lit≤ tt), (middle_number i fits, last_bytes bytes may));
+      few = lit≤ tt;
     }
 input_printed version config i st (inputs.Tick moment) most client may handed =
     let fits = small config.clients i most client in
@@ -108,9 +108,9 @@ input_printed version config i st (inputs.Tick moment) most client may handed =
     record {
       spelled = (refl, (number_spelled 1 config.clients i client.from_one client.to_n fits,
           (number_spelled 0 (2 ^ 40 - 1) moment (omega arith) (omega (arith, may)) moment_fits, tt)));
-      joinable = (middle_word (word_text words.Tick) refl refl (omega arith), (middle_number i fits,
+      joinable = (middle_word (word_text words.Tick) refl refl (lit≤ tt), (middle_number i fits,
           as_last (decimal moment) (middle_number moment moment_fits)));
-      few = omega arith;
+      few = lit≤ tt;
     }
 input_printed version config i st (inputs.Arrive message) most client may handed =
     let p = arrival_printed (version == 1) config.clients i message most client handed in
@@ -161,7 +161,7 @@ entries_printed version config front (e ∷ rest) run few =
 -- The last line.
 end_tokens : (count : ℕ) → count ≤ 20000 → AreTokens (codes "end" ∷ decimal count ∷ [])
 end_tokens count few =
-    (middle_word (codes "end") refl refl (omega arith), as_last (decimal count) (middle_number count (omega arith)))
+    (middle_word (codes "end") refl refl (lit≤ tt), as_last (decimal count) (middle_number count (omega arith)))
 
 end_printed : (count : ℕ) → count ≤ 20000 → IsEndLine count (end_line count)
 end_printed count few =
@@ -182,7 +182,9 @@ abbrev FitsLine : List ℕ → Type 0
 FitsLine text = length text ≤ 40000
 
 two_short : (a b : List ℕ) (m : ℕ) → length a ≤ 20 → length b ≤ m → length (joined (a ∷ b ∷ [])) ≤ 21 + m
-two_short a b m first second = omega (arith, length-append a (32 ∷ b))
+two_short a b m first second =
+    let size : length (a ++ (32 ∷ b)) ≡ length a + suc (length b) = length-append a (32 ∷ b) in
+    omega (arith, size, first, second)
 
 named_short : (name : List ℕ) (x : ℕ) → length name ≤ 20 → x < 2 ^ 64 → FitsLine (named_number name x)
 named_short name x short fits =
@@ -191,11 +193,11 @@ named_short name x short fits =
 
 wires_short : (alone : Bool) (wire : ℕ) → wire ≤ 2 → AllByRecursion FitsLine (cond alone [] (named_number (codes "wire") wire ∷ []))
 wires_short true wire few = tt
-wires_short false wire few = (named_short (codes "wire") wire (omega arith) (omega arith), tt)
+wires_short false wire few = (named_short (codes "wire") wire (lit≤ tt) (omega (arith, few)), tt)
 
 title_short : (alone : Bool) → FitsLine (joined (codes "faust-record" ∷ cond alone (codes "1") (codes "2") ∷ []))
-title_short true = omega arith
-title_short false = omega arith
+title_short true = lit≤ tt
+title_short false = lit≤ tt
 
 all_fit_append : (xs ys : List (List ℕ)) → AllByRecursion FitsLine xs → AllByRecursion FitsLine ys → AllByRecursion FitsLine (xs ++ ys)
 all_fit_append [] ys left right = right
@@ -204,14 +206,14 @@ all_fit_append (x ∷ xs) ys left right = (left.0, all_fit_append xs ys left.1 r
 head_short : (version : ℕ) (config : Config) → IsConfig config → AllByRecursion FitsLine (head_lines titles.Record version config)
 head_short version config range =
     let key_size = length-encode_with lower_digits config.key in
-    let key = two_short (codes "key") (encode_lower config.key) 256 (omega arith) (omega (arith, key_size, range.key_sized.sized)) in
+    let key = two_short (codes "key") (encode_lower config.key) 256 (lit≤ tt) (omega (arith, key_size, range.key_sized.sized)) in
     let behind : AllByRecursion FitsLine (named_number (codes "clients") config.clients ∷ joined (codes "key" ∷ encode_lower config.key ∷ []) ∷ named_number (codes "delta") config.delta ∷ named_number (codes "dummy") config.dummy ∷ []) = (
-      named_short (codes "clients") config.clients (omega arith) (omega (arith, range.clients_count.at_most_32)),
+      named_short (codes "clients") config.clients (lit≤ tt) (omega (arith, range.clients_count.at_most_32)),
       (
         omega (arith, key),
         (
-          named_short (codes "delta") config.delta (omega arith) (omega (arith, range.delta_span.below)),
-          (named_short (codes "dummy") config.dummy (omega arith) (omega (arith, range.dummy_span.below)), tt),
+          named_short (codes "delta") config.delta (lit≤ tt) (omega (arith, range.delta_span.below)),
+          (named_short (codes "dummy") config.dummy (lit≤ tt) (omega (arith, range.dummy_span.below)), tt),
         ),
       ),
     ) in
@@ -242,7 +244,7 @@ printed_is_record run version is_run key few known =
       few_clients = is_run.config_in_range.clients_count.at_most_32;
       format_known = format_known version config.wire known;
     } in
-    let feeds = (ended_text-only _ head (printed_heads_lines record_form version config can)).1 in
+    let feeds = (ended_text-only (head_text titles.Record version config) head (printed_heads_lines record_form version config can)).1 in
     let entries = entries_printed version config [] run.entries is_run few in
     let count = length run.entries in
     record {

@@ -94,10 +94,10 @@ begin_found version n i k name a b tokens line named client_is kind_is rest =
     ∙ (ap (λ r. r >>= begun_behind n) (next_found (client n) i a (b ∷ tokens) client_is)
     ∙ (ap (λ r. r >>= (λ g. begun_by n i g.0 g.1)) (next_found kind k b tokens kind_is) ∙ rest))
 
-alone_by : ℕ → List (List ℕ) → Result EntryLine Cause
+abbrev alone_by : ℕ → List (List ℕ) → Result EntryLine Cause
 alone_by n tokens = fields_at (client_form n) tokens >>= λ given. Ok (lines.Comes given.0 inputs.Arrive)
 
-named_by : ℕ → List (List ℕ) → Result EntryLine Cause
+abbrev named_by : ℕ → List (List ℕ) → Result EntryLine Cause
 named_by n tokens = fields_at (bytes_form n) tokens >>= λ given. Ok (lines.Arrives given.0 given.1.0)
 
 pub line_found : (version n : ℕ) (line : EntryLine) (tokens : List (List ℕ)) → SpellsLine version n line tokens → line_at version n tokens ≡ Ok line

@@ -1,6 +1,6 @@
 -- How a run takes what a line says: the entry of a run is taken from the line that spells it, and what is taken is an
 -- entry that the line spells.
-use Rattle.std.proofs.Common.{◌≡◌, ◌+◌, ◌-◌, ◌≤◌, ℕ, suc, zero, Bool, true, false, Option, Some, None, Result, Ok, Err, List, [], ◌∷◌, ◌++◌, length, refl, sym, ap, ◌∙◌, subst, ◌⊎◌, inl, inr, arith}
+use Rattle.std.proofs.Common.{◌≡◌, ◌+◌, ◌-◌, ◌≤◌, ℕ, suc, zero, Bool, true, false, Option, Some, None, Result, Ok, Err, List, [], ◌∷◌, ◌++◌, length, refl, sym, ap, ◌∙◌, subst, ◌⊎◌, inl, inr, arith, length-append}
 use Rattle.std.specs.Prelude.{◌==◌, cond, IfSome, option_and_then, slice_get}
 use Rattle.std.specs.Str.{bytes_eq}
 use Rattle.std.proofs.lemmas.Bool.{cases_Bool, cond-false, cond-true}
@@ -185,3 +185,33 @@ taken_only version n run next (lines.Arrives i message) kept fits is =
     arrival_taken version n run next i (lines.Arrives i message) a kept fits
     (λ tokens spelled. subst (λ (m : List ℕ). SpellsArrival (version == 1) n i m tokens) same
     (subst (λ (b : Bool). SpellsArrival b n i message tokens) (sym spelled.0) spelled.1))
+
+-- The message of the last entry is the one that was due.
+last_item : (xs : List Entry) (x : Entry) → slice_get (xs ++ x ∷ []) (length xs) ≡ Some x
+last_item [] x = refl
+last_item (y ∷ xs) x = last_item xs x
+
+last_arrived : (run next : Run) (i : ℕ) → pushed (push_of run i given.Arrive) ≡ Ok next → last_arrival next.entries ≡ next_message i run.entries
+last_arrived run next i is =
+    let a = arrival_parts run next i is in
+    let entry : Entry = arrival_at i (length run.entries) a.message in
+    let place : length (run.entries ++ entry ∷ []) - 1 ≡ length run.entries = omega (arith, length-append run.entries (entry ∷ [])) in
+    ap (λ (r : Run). last_arrival r.entries) (sym a.longer)
+    ∙ (ap (λ (q : ℕ). option_and_then arrival_of (slice_get (run.entries ++ entry ∷ []) q)) place
+    ∙ (ap (option_and_then arrival_of) (last_item run.entries entry) ∙ sym a.due))
+
+arrived_as : (run next : Run) (i : ℕ) (message : List ℕ) → pushed (push_of run i given.Arrive) ≡ Ok next
+    → arriving_as run i message ≡ framed message (last_arrival next.entries) next
+arrived_as run next i message is =
+    ap (λ (r : Result Run Cause). r >>= (λ after. framed message (next_message i run.entries) after)) is
+    ∙ ap (λ (due : Option (List ℕ)). framed message due next) (sym (last_arrived run next i is))
+
+pub message_taken : (run next : Run) (i : ℕ) (message : List ℕ) → pushed (push_of run i given.Arrive) ≡ Ok next
+    → is_due message (last_arrival next.entries) ≡ true → arriving_as run i message ≡ Ok next
+message_taken run next i message is due =
+    arrived_as run next i message is ∙ cond-true (is_due message (last_arrival next.entries)) (Ok next) (Err causes.Frame) due
+
+pub message_refused : (run next : Run) (i : ℕ) (message : List ℕ) → pushed (push_of run i given.Arrive) ≡ Ok next
+    → is_due message (last_arrival next.entries) ≡ false → arriving_as run i message ≡ Err causes.Frame
+message_refused run next i message is other =
+    arrived_as run next i message is ∙ cond-false (is_due message (last_arrival next.entries)) (Ok next) (Err causes.Frame) other

@@ -3,5 +3,6 @@ pub mod Texts
 pub mod Forms
 pub mod Reading
 pub mod Records
+pub mod Refusals
 pub mod InRange
 pub mod Kept

@@ -21,13 +21,16 @@ abbrev pub IsTextVersion : ℕ → ℕ → Type 0
 IsTextVersion version wire = ((version ≡ 1) × (wire ≡ 1)) ⊎ (version ≡ 2)
 
 -- The tokens of an entry behind its number. The message that arrives stands in version 2 alone.
+abbrev pub arrival_tokens : ℕ → ℕ → List ℕ → List (List ℕ)
+arrival_tokens version i message = word_text words.Arrive ∷ decimal i ∷ cond (version == 1) [] (bytes_text message ∷ [])
+
 abbrev pub input_tokens : ℕ → ℕ → Input → List (List ℕ)
 input_tokens version i (inputs.Write value) = word_text words.Begin ∷ decimal i ∷ kind_text kinds.Write ∷ value_text (Some value) ∷ []
 input_tokens version i (inputs.Read register) = word_text words.Begin ∷ decimal i ∷ kind_text kinds.Read ∷ decimal register ∷ []
 input_tokens version i (inputs.Reply bytes) = word_text words.Reply ∷ decimal i ∷ bytes_text bytes ∷ []
 input_tokens version i (inputs.Peer bytes) = word_text words.Peer ∷ decimal i ∷ bytes_text bytes ∷ []
 input_tokens version i (inputs.Tick moment) = word_text words.Tick ∷ decimal i ∷ decimal moment ∷ []
-input_tokens version i (inputs.Arrive message) = word_text words.Arrive ∷ decimal i ∷ cond (version == 1) [] (bytes_text message ∷ [])
+input_tokens version i (inputs.Arrive message) = arrival_tokens version i message
 
 -- An entry's line.
 abbrev pub entry_line : ℕ → Entry → List ℕ

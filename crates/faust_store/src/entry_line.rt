@@ -7,7 +7,7 @@ ghost use Rattle.faust_record.specs.Refusals.{IsPushInput, push_of};
 ghost use Rattle.faust_store.specs.Forms.{arrival_by, begun_by, bytes_form, end_number, entry_at, line_at, line_by};
 ghost use Rattle.faust_store.specs.InRange.{IsLineFor};
 ghost use Rattle.faust_store.specs.Kept.{last_arrival, push_refused};
-ghost use Rattle.faust_store.specs.Reading.{arriving_as, is_number_of, pushed, taken};
+ghost use Rattle.faust_store.specs.Reading.{arriving_as, is_due, is_number_of, pushed, taken};
 
 use crate::word::EntryWord;
 use faust_record::{Input, PushError, PushInput, RunRecord};
@@ -191,7 +191,10 @@ pub fn end_number<'a>(line: &'a [u8]) -> Option<&'a [u8]>
 pub fn is_number_of(token: &[u8], count: u64) -> bool
     ensures { result ≡ is_number_of count token.now }
 {
-    number(token) == Some(count)
+    match number(token) {
+        Some(found) => found == count,
+        None => false,
+    }
 }
 
 /// The run with the entry that a line says, or why it isn't taken: it can't be played, or the message that arrives
@@ -219,14 +222,25 @@ fn pushed(run: RunRecord, client: u8, input: PushInput) -> Result<RunRecord, Lin
     }
 }
 
+#[tactic(auto, using(crate::proofs::Taking::message_taken, crate::proofs::Taking::message_refused))]
 fn arrived(run: RunRecord, client: u8, message: &[u8]) -> Result<RunRecord, LineError>
     requires { IsClient run.config.clients client }
     ensures { Gives (λ next. next) result (arriving_as run client message.now) }
 {
     let run = pushed(run, client, PushInput::Arrive)?;
-    match last_arrival(&run) {
-        Some(due) if due.as_slice() == message => Ok(run),
-        _ => Err(LineError::Refused(Cause::Frame)),
+    if is_last_arrival(&run, message) {
+        Ok(run)
+    } else {
+        Err(LineError::Refused(Cause::Frame))
+    }
+}
+
+fn is_last_arrival(run: &RunRecord, message: &[u8]) -> bool
+    ensures { result ≡ is_due message.now (last_arrival run.now.entries) }
+{
+    match last_arrival(run) {
+        Some(due) => due.as_slice() == message,
+        None => false,
     }
 }
 

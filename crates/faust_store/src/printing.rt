@@ -1,7 +1,8 @@
 ghost use Rattle.std.specs.Prelude.{◌≡◌, ◌≤◌, [], ◌∷◌, ◌++◌, length, IfOk, OnOk};
 ghost use Rattle.std.specs.Fmt.{decimal};
+ghost use Rattle.faust_text.specs.Tokens.{joined};
 ghost use Rattle.faust_text.specs.Values.{bytes_text};
-ghost use Rattle.faust_store.specs.Texts.{IsTextVersion, end_line, entry_line, record_text};
+ghost use Rattle.faust_store.specs.Texts.{IsTextVersion, arrival_tokens, end_line, entry_line, input_tokens, record_text};
 ghost use Rattle.faust_store.specs.Words.{word_text};
 
 use crate::word::EntryWord;
@@ -27,43 +28,65 @@ pub fn print_record(alloc: Global, run: &RunRecord, version: u8) -> Result<Bytes
     Ok(text)
 }
 
+#[tactic(auto, using(crate::proofs::PrintedText::line_is))]
 fn put_entry(text: &mut Bytes, version: u8, entry: &Entry) -> Result<(), OutOfMemory>
     ensures { OnOk result (text.new ≡ text.old ++ (entry_line version entry.now ++ 10 ∷ [])) }
 {
     put_number(text, entry.number)?;
     text.push(b' ')?;
-    match &entry.input {
+    put_input(text, version, entry.client, &entry.input)?;
+    text.push(b'\n')
+}
+
+fn put_input(
+    text: &mut Bytes,
+    version: u8,
+    client: u8,
+    input: &Input,
+) -> Result<(), OutOfMemory>
+    ensures { OnOk result (text.new ≡ text.old ++ joined (input_tokens version client input.now)) }
+{
+    match input {
         Input::Write(value) => {
-            put_word(text, EntryWord::Begin, entry.client)?;
+            put_word(text, EntryWord::Begin, client)?;
             text.append(b" write ")?;
-            put_value(text, Some(value.as_slice()))?;
+            put_value(text, Some(value.as_slice()))
         }
         Input::Read(register) => {
-            put_word(text, EntryWord::Begin, entry.client)?;
+            put_word(text, EntryWord::Begin, client)?;
             text.append(b" read ")?;
-            put_number(text, u64::from(*register))?;
+            put_number(text, u64::from(*register))
         }
         Input::Reply(bytes) => {
-            put_word(text, EntryWord::Reply, entry.client)?;
-            put_bytes(text, bytes)?;
+            put_word(text, EntryWord::Reply, client)?;
+            put_bytes(text, bytes)
         }
         Input::Peer(bytes) => {
-            put_word(text, EntryWord::Peer, entry.client)?;
-            put_bytes(text, bytes)?;
+            put_word(text, EntryWord::Peer, client)?;
+            put_bytes(text, bytes)
         }
         Input::Tick(moment) => {
-            put_word(text, EntryWord::Tick, entry.client)?;
+            put_word(text, EntryWord::Tick, client)?;
             text.push(b' ')?;
-            put_number(text, *moment)?;
+            put_number(text, *moment)
         }
-        Input::Arrive(message) => {
-            put_word(text, EntryWord::Arrive, entry.client)?;
-            if version != 1 {
-                put_bytes(text, message)?;
-            }
-        }
+        Input::Arrive(message) => put_arrival(text, version, client, message),
     }
-    text.push(b'\n')
+}
+
+fn put_arrival(
+    text: &mut Bytes,
+    version: u8,
+    client: u8,
+    message: &Bytes,
+) -> Result<(), OutOfMemory>
+    ensures { OnOk result (text.new ≡ text.old ++ joined (arrival_tokens version client message.now)) }
+{
+    put_word(text, EntryWord::Arrive, client)?;
+    if version == 1 {
+        return Ok(());
+    }
+    put_bytes(text, message)
 }
 
 fn put_word(text: &mut Bytes, word: EntryWord, client: u8) -> Result<(), OutOfMemory>

@@ -1,6 +1,6 @@
-ghost use Rattle.std.specs.Prelude.{◌≡◌, ◌≤◌, length, IfOk};
-ghost use Rattle.faust_store.specs.InRange.{IsStage};
+ghost use Rattle.std.specs.Prelude.{◌≡◌};
 ghost use Rattle.faust_store.specs.Reading.{Reads, finished, read, refused_at};
+ghost use Rattle.faust_store.specs.Refusals.{IsAnswer};
 
 use crate::error::StoreError;
 use crate::stage::Stage;
@@ -11,6 +11,13 @@ use std::alloc::Global;
 /// The run whose record, of version 1 or 2, the bytes are, or the first line that is refused with its cause. It stops
 /// there, and keeps no list of lines.
 pub fn read_record(alloc: Global, input: &[u8]) -> Result<RunRecord, StoreError>
+    ensures answer { IsAnswer input.now result }
+    ensures exact { Reads result (read input.now) }
+{
+    run_of(alloc, input)
+}
+
+fn run_of(alloc: Global, input: &[u8]) -> Result<RunRecord, StoreError>
     ensures { Reads result (read input.now) }
 {
     let mut stage = Stage::start();

@@ -10,7 +10,7 @@ ghost use Rattle.faust_store.specs.Reading.{entry_taken, numbered, stage_at, sta
 use crate::entry_line::{EntryLine, end_number, is_number_of, read_entry, taken};
 use faust_record::RunRecord;
 use faust_text::{Cause, Head, HeadForm, HeadStep, Line, LineError, Title, whole_line};
-use faust_types::{Config, MAX_CLIENTS};
+use faust_types::{Config, MAX_CLIENTS, OutOfMemory};
 use std::alloc::Global;
 
 /// The most entries of a record's text.
@@ -61,7 +61,7 @@ impl Stage {
     /// Reads the text of the next line. A refused line has the cause of the first of these: nothing may follow the last
     /// line, there are at most 20,000 entries, a token may not stand there, the number isn't the next one, the entry
     /// can't be played, the message that arrives isn't that of the line.
-    #[tactic(auto, unfolding(crate::specs::Reading::text_at))]
+    #[tactic(auto, using(crate::proofs::Ranges::head_goes_on, crate::proofs::Ranges::config_kept), unfolding(crate::specs::Reading::text_at))]
     pub fn read(self, alloc: Global, text: &[u8]) -> Result<Stage, LineError>
         requires { IsStage self }
         ensures gives { Gives (λ stage. stage) result (text_at self text.now) }
@@ -70,7 +70,7 @@ impl Stage {
         match self {
             Stage::Head(head) => match head.read(alloc, RECORD_HEAD, text)? {
                 HeadStep::Next(head) => Ok(Stage::Head(head)),
-                HeadStep::Whole { format, config } => first_entry_due(alloc, format, config),
+                HeadStep::Whole { format, config } => Ok(first_entry_due(alloc, format, config)?),
             },
             Stage::Entries(version, run) => item(alloc, version, run, text),
             Stage::Ended(_) => Err(LineError::Refused(Cause::AfterEnd)),
@@ -78,7 +78,7 @@ impl Stage {
     }
 }
 
-fn first_entry_due(alloc: Global, version: u8, config: Config) -> Result<Stage, LineError>
+fn first_entry_due(alloc: Global, version: u8, config: Config) -> Result<Stage, OutOfMemory>
     requires { IsConfig config }
     ensures { IfOk result (λ stage. stage ≡ Stage.Entries version (first_run config)) }
 {
@@ -96,6 +96,7 @@ fn item(alloc: Global, version: u8, run: RunRecord, text: &[u8]) -> Result<Stage
     }
 }
 
+#[tactic(auto, using(crate::proofs::Ranges::entry_in_range))]
 fn next_entry(alloc: Global, version: u8, run: RunRecord, text: &[u8]) -> Result<Stage, LineError>
     ensures { Gives (λ stage. stage) result (entry_taken version run (tokens_of text.now)) }
 {

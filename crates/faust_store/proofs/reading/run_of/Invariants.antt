@@ -2,7 +2,7 @@ use Rattle.std.proofs.Common.{◌≡◌, ◌+◌, ◌-◌, ◌≤◌, length, dr
 use Rattle.faust_text.specs.Lines.{lines_of}
 use Rattle.faust_store.specs.InRange.{IsStage}
 use Rattle.faust_store.specs.Reading.{lines_from, read}
-use Rattle.faust_store.proofs.reading.read_record.Given as goal
+use Rattle.faust_store.proofs.reading.run_of.Given as goal
 
 abbrev pub invariant-loop-line : goal.invariant-loop-line
 invariant-loop-line l = record {
