@@ -1,5 +1,5 @@
 -- The generated script is in range, and how many events it has.
-use Rattle.std.proofs.Common.{◌≡◌, ℕ, ◌+◌, ◌-◌, ◌*◌, ◌^◌, ◌<◌, ◌≤◌, zero, suc, Bool, true, false, cond, List, [], ◌∷◌, ◌++◌, length, get_or, length-append, append_assoc, append-nil, refl, sym, ap, ◌∙◌, subst, inl, inr, lit≤, lit<, arith}
+use Rattle.std.proofs.Common.{◌≡◌, ◌≢◌, ℕ, ◌+◌, ◌-◌, ◌*◌, ◌^◌, ◌<◌, ◌≤◌, zero, suc, Bool, true, false, cond, List, [], ◌∷◌, ◌++◌, length, get_or, length-append, append_assoc, append-nil, refl, sym, ap, ◌∙◌, subst, inl, inr, lit≤, lit<, arith}
 use Rattle.std.proofs.lemmas.Bool.{cases_eq, cond_both, cond-true, cond-false, eq-eqb, ne_eqb}
 use Rattle.std.proofs.Math.Nat.{mul-le-mul, suc-mul, zero-mul}
 use Rattle.std.specs.Prelude.{nat_eq}
@@ -10,7 +10,7 @@ use Rattle.faust_types.specs.Ranges.{IsConfig, IsSpan, IsWire}
 use Rattle.faust_script.specs.declared.event.Event.{Event}
 use Rattle.faust_script.specs.declared.event.Event.TheVariants as event
 use Rattle.faust_script.specs.declared.progress.Progress.{Progress}
-use Rattle.faust_script.specs.Generated.{IsSampleSize, after_steps, beginning, drawn_events, each_up_to, from_another, from_each, generated, last_operation, round_of, sample_config, sample_key, step_count, ticks, to_another, to_each}
+use Rattle.faust_script.specs.Generated.{IsSampleSize, after_steps, beginning, drawn_events, each_up_to, from_each, generated, last_operation, round_of, sample_config, sample_key, step_count, ticks, to_another, to_each}
 use Rattle.faust_script.specs.InRange.{IsEventFor, IsPlace, IsScript}
 use Rattle.faust_script.proofs.Steps.{IsUnderway, all_append, underway}
 
@@ -56,22 +56,22 @@ pub record IsOneEach (i m : ℕ) (events : List Event) : Type 0 where
   pub behind : i ≤ m → length events + 1 ≡ m
   pub before : m < i → length events ≡ m
 
-all_but_one : (i m : ℕ) (made : ℕ → Event) → 1 ≤ i → IsOneEach i m (each_up_to m (λ j. cond (nat_eq i j) [] (made j ∷ [])))
+all_but_one : (i m : ℕ) (test : ℕ → Bool) (made : ℕ → Event) → 1 ≤ i → test i ≡ true → ((j : ℕ) → j ≢ i → test j ≡ false)
+    → IsOneEach i m (each_up_to m (λ j. cond (test j) [] (made j ∷ [])))
 unfolding each_up_to
-all_but_one i zero made one = record { behind = λ h. absurd (omega arith); before = λ h. refl }
-all_but_one i (suc m) made one =
-    let front : List Event = each_up_to m (λ j. cond (nat_eq i j) [] (made j ∷ [])) in
-    let is : IsOneEach i m front = all_but_one i m made one in
-    elim (cases_eq i (suc m)) [
+all_but_one i zero test made one own others = record { behind = λ h. absurd (omega arith); before = λ h. refl }
+all_but_one i (suc m) test made one own others =
+    let front : List Event = each_up_to m (λ j. cond (test j) [] (made j ∷ [])) in
+    let last : List Event = cond (test (suc m)) [] (made (suc m) ∷ []) in
+    let is : IsOneEach i m front = all_but_one i m test made one own others in
+    elim (cases_eq (suc m) i) [
       | inl same ↦
-          let none : cond (nat_eq i (suc m)) [] (made (suc m) ∷ []) ≡ [] = cond-true (nat_eq i (suc m)) [] (made (suc m) ∷ []) (eq-eqb i (suc m) same) in
-          let whole : length (front ++ cond (nat_eq i (suc m)) [] (made (suc m) ∷ [])) ≡ length front + 0 =
-          length-append front (cond (nat_eq i (suc m)) [] (made (suc m) ∷ [])) ∙ ap (λ (l : List Event). length front + length l) none in
+          let none : last ≡ [] = cond-true (test (suc m)) [] (made (suc m) ∷ []) (ap test same ∙ own) in
+          let whole : length (front ++ last) ≡ length front + 0 = length-append front last ∙ ap (λ (l : List Event). length front + length l) none in
           record { behind = λ h. omega (arith, whole, is.before (omega arith)); before = λ h. absurd (omega arith) }
       | inr other ↦
-          let some : cond (nat_eq i (suc m)) [] (made (suc m) ∷ []) ≡ made (suc m) ∷ [] = cond-false (nat_eq i (suc m)) [] (made (suc m) ∷ []) (ne_eqb i (suc m) other) in
-          let whole : length (front ++ cond (nat_eq i (suc m)) [] (made (suc m) ∷ [])) ≡ length front + 1 =
-          length-append front (cond (nat_eq i (suc m)) [] (made (suc m) ∷ [])) ∙ ap (λ (l : List Event). length front + length l) some in
+          let some : last ≡ made (suc m) ∷ [] = cond-false (test (suc m)) [] (made (suc m) ∷ []) (others (suc m) other) in
+          let whole : length (front ++ last) ≡ length front + 1 = length-append front last ∙ ap (λ (l : List Event). length front + length l) some in
           record { behind = λ h. omega (arith, whole, is.behind (omega (arith, other))); before = λ h. omega (arith, whole, is.before (omega arith)) }
     ]
 
@@ -88,9 +88,9 @@ from_each_in_range n k place =
 
 to_each_in_range : (n k : ℕ) → IsPlace k → AllByRecursion (IsEventFor n) (to_each n k)
 to_each_in_range n k place =
-    each_in_range n n (λ i. each_up_to n (λ j. from_another k i j))
-    (λ i receiver. each_in_range n n (λ j. from_another k i j)
-    (λ j sender. cond_both (nat_eq i j) [] (event.Peer j i k ∷ []) (AllByRecursion (IsEventFor n)) (λ same. tt) (λ other. ((sender, receiver, place), tt))) (omega arith))
+    each_in_range n n (λ i. each_up_to n (λ j. to_another k j i))
+    (λ i receiver. each_in_range n n (λ j. to_another k j i)
+    (λ j sender. cond_both (nat_eq j i) [] (event.Peer j i k ∷ []) (AllByRecursion (IsEventFor n)) (λ same. tt) (λ other. ((sender, receiver, place), tt))) (omega arith))
     (omega arith)
 
 round_in_range : (n r : ℕ) → 1 ≤ r → r ≤ 2 → AllByRecursion (IsEventFor n) (round_of n r)
@@ -106,12 +106,12 @@ ticks_counted n moment = each_counted n n 1 (λ i. event.Tick i moment ∷ []) (
 from_each_counted : (n k : ℕ) → length (from_each n k) ≡ n * (n - 1)
 from_each_counted n k =
     each_counted n n (n - 1) (λ i. each_up_to n (λ j. to_another k i j))
-    (λ i is. let one = all_but_one i n (λ j. event.Peer i j k) is.from_one in omega (arith, one.behind is.to_n)) (omega arith)
+    (λ i is. let one = all_but_one i n (λ j. nat_eq i j) (λ j. event.Peer i j k) is.from_one (eq-eqb i i refl) (λ j other. ne_eqb i j (λ e. other (sym e))) in omega (arith, one.behind is.to_n)) (omega arith)
 
 to_each_counted : (n k : ℕ) → length (to_each n k) ≡ n * (n - 1)
 to_each_counted n k =
-    each_counted n n (n - 1) (λ i. each_up_to n (λ j. from_another k i j))
-    (λ i is. let one = all_but_one i n (λ j. event.Peer j i k) is.from_one in omega (arith, one.behind is.to_n)) (omega arith)
+    each_counted n n (n - 1) (λ i. each_up_to n (λ j. to_another k j i))
+    (λ i is. let one = all_but_one i n (λ j. nat_eq j i) (λ j. event.Peer j i k) is.from_one (eq-eqb i i refl) (λ j other. ne_eqb j i other) in omega (arith, one.behind is.to_n)) (omega arith)
 
 round_counted : (n r : ℕ) → length (round_of n r) ≡ n + 2 * (n * (n - 1))
 round_counted n r =
@@ -136,24 +136,15 @@ generated_counted seed n ops size =
     let rounds = length-append (round_of n 1) (round_of n 2) in
     omega (arith, whole, back, rounds, round_counted n 1, round_counted n 2, is.events_counted, size.from_one)
 
-bytes_each : (xs : List ℕ) → AllByRecursion (λ x. x < 256) xs → AreBytes xs
-bytes_each [] all i = lit< tt
-bytes_each (x ∷ xs) all zero = all.0
-bytes_each (x ∷ xs) all (suc i) = bytes_each xs all.1 i
-
 key_is : IsKey sample_key
-key_is = record {
-  not_empty = lit≤ tt;
-  sized = lit≤ tt;
-  bytes_each = bytes_each sample_key ((lit< tt, (lit< tt, (lit< tt, (lit< tt, (lit< tt, (lit< tt, (lit< tt, (lit< tt, (lit< tt, (lit< tt, (lit< tt, (lit< tt, (lit< tt, (lit< tt, (lit< tt, (lit< tt, tt)))))))))))))))));
-}
+key_is = record { not_empty = lit≤ tt; sized = lit≤ tt }
 
 pub generated_in_range : (seed n ops : ℕ) → IsSampleSize n ops → IsScript (generated seed n ops)
 unfolding generated drawn_events
 generated_in_range seed n ops size =
     let drawn : List Event = (after_steps n ops (beginning seed n) (step_count ops)).events in
     let is : IsUnderway n ops (step_count ops) (after_steps n ops (beginning seed n) (step_count ops)) = underway seed n ops (step_count ops) size (omega arith) in
-    let few : n * (n - 1) ≤ 32 * 31 = mul-le-mul (omega (arith, size.clients_count.at_most_32)) (omega (arith, size.clients_count.at_most_32)) in
+    let few : n * (n - 1) ≤ 32 * 31 = mul-le-mul {n₁ = n} {m₁ = n - 1} {n₂ = 32} {m₂ = 31} (omega (arith, size.clients_count.at_most_32)) (omega (arith, size.clients_count.at_most_32)) in
     record {
       format_known = inl (refl, refl);
       config_in_range = record {

@@ -1,10 +1,10 @@
 -- Some client can act in each step of the generated script, and none after the last.
-use Rattle.std.proofs.Common.{◌≡◌, ◌≢◌, ℕ, ◌+◌, ◌-◌, ◌*◌, ◌%◌, ◌^◌, ◌<◌, ◌≤◌, zero, suc, Bool, true, false, cond, List, [], ◌∷◌, ◌++◌, length, get_or, set, drop, replicate, length-set, length-append, refl, sym, ap, ◌∙◌, subst, inl, inr, lit<, arith}
+use Rattle.std.proofs.Common.{◌≡◌, ◌≢◌, ℕ, ◌+◌, ◌-◌, ◌*◌, ◌%◌, ◌/◌, ◌^◌, ◌<◌, ◌≤◌, zero, suc, Bool, true, false, cond, List, [], ◌∷◌, ◌++◌, length, get_or, set, drop, replicate, length-set, length-append, refl, sym, ap, ◌∙◌, subst, inl, inr, lit<, arith}
 use Rattle.std.proofs.lemmas.Bool.{cases_Bool, cases_lt, cond_both, cond-true, cond-false, ltb-true, lt-ltb, le-ltb, ltb-false, false≢true}
 use Rattle.std.proofs.lemmas.List.{get_or_past, length-replicate}
 use Rattle.std.proofs.Math.Seq.{drop-cons}
-use Rattle.std.proofs.lemmas.List.Sums.{sum_by-set}
-use Rattle.std.specs.Prelude.{sum_by, nat_lt, nat_eq}
+use Rattle.std.proofs.Math.Nat.{mod-add-mod}
+use Rattle.std.specs.Prelude.{nat_lt, nat_eq}
 use Rattle.std.specs.List.{AllByRecursion}
 use Rattle.std.specs.Fmt.{decimal}
 use Rattle.std.proofs.lemmas.Fmt.{length-decimal-le}
@@ -68,7 +68,14 @@ abbrev pub owed_by : Actor → ℕ
 owed_by actor = owed_in actor.phase
 
 abbrev pub owed : List Actor → ℕ
-owed actors = sum_by owed_by actors
+owed [] = 0
+owed (actor ∷ actors) = owed_by actor + owed actors
+
+owed_after : (actors : List Actor) (place : ℕ) (actor : Actor) → place < length actors
+    → owed (set actors place actor) + owed_by (get_or actors place idle) ≡ owed actors + owed_by actor
+owed_after [] place actor within = absurd (omega arith)
+owed_after (first ∷ actors) zero actor within = omega arith
+owed_after (first ∷ actors) (suc place) actor within = omega (arith, owed_after actors place actor (omega arith))
 
 -- The client in a place of those that can act.
 pub record IsAble (may : Bool) (first : ℕ) (actors : List Actor) (client : ℕ) : Type 0 where
@@ -115,21 +122,63 @@ not_owed may phases.Begun cannot = absurd (false≢true (sym cannot))
 not_owed may phases.Arrived cannot = absurd (false≢true (sym cannot))
 not_owed may phases.Replied cannot = absurd (false≢true (sym cannot))
 
--- The clients that can act, seen from one on.
-pub able_next : (may : Bool) (actors : List Actor) (i : ℕ) → i < length actors
-    → able_from may (i + 1) (drop i actors) ≡ able_from may (i + 1) (get_or actors i idle ∷ drop (i + 1) actors)
-able_next may actors i within =
+-- The clients that can act from one on: this one and the later ones, or the later ones alone.
+able_next : (may : Bool) (actors : List Actor) (i : ℕ) (d : Actor) → i < length actors
+    → able_from may (i + 1) (drop i actors) ≡ able_from may (i + 1) (get_or actors i d ∷ drop (i + 1) actors)
+able_next may actors i d within =
     let step : suc i ≡ i + 1 = omega arith in
-    ap (λ (l : List Actor). able_from may (i + 1) l) (drop-cons actors i idle within ∙ ap (λ (k : ℕ). get_or actors i idle ∷ drop k actors) step)
+    ap (λ (l : List Actor). able_from may (i + 1) l) (drop-cons actors i d within ∙ ap (λ (k : ℕ). get_or actors i d ∷ drop k actors) step)
+
+pub able_taken : (may : Bool) (actors : List Actor) (i : ℕ) (d : Actor) → i < length actors → can_act may (get_or actors i d).phase ≡ true
+    → able_from may (i + 1) (drop i actors) ≡ (i + 1) ∷ able_from may (i + 1 + 1) (drop (i + 1) actors)
+able_taken may actors i d within can =
+    able_next may actors i d within
+    ∙ cond-true (can_act may (get_or actors i d).phase) ((i + 1) ∷ able_from may (i + 1 + 1) (drop (i + 1) actors)) (able_from may (i + 1 + 1) (drop (i + 1) actors)) can
+
+pub able_passed : (may : Bool) (actors : List Actor) (i : ℕ) (d : Actor) → i < length actors → can_act may (get_or actors i d).phase ≡ false
+    → able_from may (i + 1) (drop i actors) ≡ able_from may (i + 1 + 1) (drop (i + 1) actors)
+able_passed may actors i d within cannot =
+    able_next may actors i d within
+    ∙ cond-false (can_act may (get_or actors i d).phase) ((i + 1) ∷ able_from may (i + 1 + 1) (drop (i + 1) actors)) (able_from may (i + 1 + 1) (drop (i + 1) actors)) cannot
+
+-- A step more.
+pub one_more_step : (n ops : ℕ) (progress : Progress) (steps : ℕ) → acted n ops (after_steps n ops progress steps) ≡ after_steps n ops progress (steps + 1)
+unfolding after_steps
+one_more_step n ops progress steps = let step : suc steps ≡ steps + 1 = omega arith in ap (λ (k : ℕ). after_steps n ops progress k) step
+
+pub no_step : (n ops : ℕ) (progress : Progress) → after_steps n ops progress 0 ≡ progress
+unfolding after_steps
+no_step n ops progress = refl
+
+-- A draw as the machine computes it.
+pub drawn_wraps : (state : ℕ) → (state * 6364136223846793005 % 2 ^ 64 + 1442695040888963407) % 2 ^ 64 ≡ drawn state
+unfolding drawn
+drawn_wraps state = mod-add-mod (state * 6364136223846793005) (2 ^ 64) 1442695040888963407
+
+pub answer_shifts : (state : ℕ) → state / 2 ^ 33 ≡ answer state
+unfolding answer
+answer_shifts state = refl
 
 -- Where a step is owed some client can act, and where an operation may begin each can.
+owed_more : (actor : Actor) (actors : List Actor) → owed (actor ∷ actors) ≡ owed_in actor.phase + owed actors
+owed_more actor actors = refl
+
+some_behind : (actor : Actor) (actors : List Actor) → owed_in actor.phase ≡ 0 → 0 < owed (actor ∷ actors) → 0 < owed actors
+some_behind actor actors nothing some = let more : 0 < owed_in actor.phase + owed actors = subst (λ (k : ℕ). 0 < k) (owed_more actor actors) some in omega arith
+
+none_here : (actor : Actor) (actors : List Actor) → owed (actor ∷ actors) ≡ 0 → owed_in actor.phase ≡ 0
+none_here actor actors none = let both : owed_in actor.phase + owed actors ≡ 0 = sym (owed_more actor actors) ∙ none in omega arith
+
+none_behind : (actor : Actor) (actors : List Actor) → owed (actor ∷ actors) ≡ 0 → owed actors ≡ 0
+none_behind actor actors none = let both : owed_in actor.phase + owed actors ≡ 0 = sym (owed_more actor actors) ∙ none in omega arith
+
 some_from_owed : (may : Bool) (first : ℕ) (actors : List Actor) → 0 < owed actors → 0 < length (able_from may first actors)
 some_from_owed may first [] some = absurd (omega arith)
 some_from_owed may first (actor ∷ actors) some =
     cond_both (can_act may actor.phase) (first ∷ able_from may (first + 1) actors) (able_from may (first + 1) actors)
     (λ (clients : List ℕ). 0 < length clients)
     (λ can. omega arith)
-    (λ cannot. some_from_owed may (first + 1) actors (omega (arith, some, not_owed may actor.phase cannot)))
+    (λ cannot. some_from_owed may (first + 1) actors (some_behind actor actors (not_owed may actor.phase cannot) some))
 
 can_begin : (phase : Phase) → can_act true phase ≡ true
 can_begin phases.Idle = refl
@@ -153,8 +202,9 @@ owed_nothing phases.Replied none = absurd (omega arith)
 none_from_owed : (first : ℕ) (actors : List Actor) → owed actors ≡ 0 → able_from false first actors ≡ []
 none_from_owed first [] none = refl
 none_from_owed first (actor ∷ actors) none =
-    cond-false (can_act false actor.phase) (first ∷ able_from false (first + 1) actors) (able_from false (first + 1) actors) (owed_nothing actor.phase (omega arith))
-    ∙ none_from_owed (first + 1) actors (omega arith)
+    cond-false (can_act false actor.phase) (first ∷ able_from false (first + 1) actors) (able_from false (first + 1) actors)
+    (owed_nothing actor.phase (none_here actor actors none))
+    ∙ none_from_owed (first + 1) actors (none_behind actor actors none)
 
 -- What holds after each number of steps.
 pub record IsUnderway (n ops steps : ℕ) (progress : Progress) : Type 0 where
@@ -187,7 +237,7 @@ stepped : (n ops steps state begun client number : ℕ) (phase : Phase) (made : 
 stepped n ops steps state begun client number phase made progress underway is in_range above few small less =
     let place : client - 1 < length progress.actors = omega (arith, underway.each_counted, is.from_one, is.to_n) in
     let same : owed (set progress.actors (client - 1) (record { phase = phase; number = number })) + owed_by (get_or progress.actors (client - 1) idle)
-    ≡ owed progress.actors + owed_in phase = sum_by-set owed_by progress.actors (client - 1) (record { phase = phase; number = number }) idle place in
+    ≡ owed progress.actors + owed_in phase = owed_after progress.actors (client - 1) (record { phase = phase; number = number }) place in
     record {
       each_counted = length-set progress.actors (client - 1) (record { phase = phase; number = number }) ∙ underway.each_counted;
       few_begun = few;

@@ -1,6 +1,6 @@
 -- The generated script: operations of all clients in an order that is drawn from a seed, then one last operation, then
 -- two rounds in which each client asks each other for its version and is answered. `generate` promises it.
-use Rattle.std.specs.Prelude.{ℕ, ◌+◌, ◌-◌, ◌*◌, ◌/◌, ◌%◌, ◌^◌, ◌≤◌, Bool, true, false, cond, nat_eq, nat_lt, List, [], ◌∷◌, ◌++◌, length, replicate, codes, slice_index, slice_index_or, slice_set}
+use Rattle.std.specs.Prelude.{ℕ, zero, suc, ◌+◌, ◌-◌, ◌*◌, ◌/◌, ◌%◌, ◌^◌, ◌≤◌, Bool, true, false, cond, nat_eq, nat_lt, List, [], ◌∷◌, ◌++◌, length, replicate, codes, slice_index, slice_index_or, slice_set}
 use Rattle.std.specs.Fmt.{decimal}
 use Rattle.faust_types.specs.Clients.{IsClientCount}
 use Rattle.faust_types.specs.declared.config.Config.{Config}
@@ -123,11 +123,8 @@ abbrev pub from_each : ℕ → ℕ → List Event
 from_each n k = each_up_to n (λ i. each_up_to n (λ j. to_another k i j))
 
 -- The same, by receivers.
-abbrev pub from_another : ℕ → ℕ → ℕ → List Event
-from_another k i j = cond (nat_eq i j) [] (event.Peer j i k ∷ [])
-
 abbrev pub to_each : ℕ → ℕ → List Event
-to_each n k = each_up_to n (λ i. each_up_to n (λ j. from_another k i j))
+to_each n k = each_up_to n (λ i. each_up_to n (λ j. to_another k j i))
 
 -- A round: each client asks each other one for its version, and each of these answers.
 abbrev pub round_of : ℕ → ℕ → List Event

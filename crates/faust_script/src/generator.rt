@@ -1,6 +1,6 @@
 ghost use Rattle.std.specs.Prelude.{◌≡◌, ℕ, ◌+◌, ◌*◌, ◌≤◌, ◌++◌, length, OnOk, IfOk};
 ghost use Rattle.faust_types.specs.Clients.{IsClient, IsClientCount};
-ghost use Rattle.faust_script.specs.Generated.{IsSampleSize, drawn_events, each_up_to, from_another, from_each, generated, last_operation, round_of, sample_config, ticks, to_another, to_each};
+ghost use Rattle.faust_script.specs.Generated.{IsSampleSize, drawn_events, each_up_to, from_each, generated, last_operation, round_of, sample_config, ticks, to_another, to_each};
 ghost use Rattle.faust_script.specs.InRange.{IsScript};
 
 use crate::event::Event;
@@ -106,10 +106,7 @@ fn put_from(events: &mut Events, clients: u8, sender: u8, k: usize) -> Result<()
     ensures { OnOk result (events.new ≡ events.old ++ each_up_to clients (λ j. to_another k sender j)) }
 {
     for before in 0..clients {
-        let receiver = before + 1;
-        if sender != receiver {
-            events.push(Event::Peer { sender, receiver, k })?;
-        }
+        put_peer(events, sender, before + 1, k)?;
     }
     Ok(())
 }
@@ -124,13 +121,19 @@ fn put_to_each(events: &mut Events, clients: u8, k: usize) -> Result<(), OutOfMe
 }
 
 fn put_to(events: &mut Events, clients: u8, receiver: u8, k: usize) -> Result<(), OutOfMemory>
-    ensures { OnOk result (events.new ≡ events.old ++ each_up_to clients (λ j. from_another k receiver j)) }
+    ensures { OnOk result (events.new ≡ events.old ++ each_up_to clients (λ j. to_another k j receiver)) }
 {
     for before in 0..clients {
-        let sender = before + 1;
-        if sender != receiver {
-            events.push(Event::Peer { sender, receiver, k })?;
-        }
+        put_peer(events, before + 1, receiver, k)?;
     }
     Ok(())
+}
+
+fn put_peer(events: &mut Events, sender: u8, receiver: u8, k: usize) -> Result<(), OutOfMemory>
+    ensures { OnOk result (events.new ≡ events.old ++ to_another k sender receiver) }
+{
+    if sender == receiver {
+        return Ok(());
+    }
+    events.push(Event::Peer { sender, receiver, k })
 }

@@ -1,0 +1,11 @@
+use Rattle.std.proofs.Common.{◌∷◌, [], ◌∙◌}
+use Rattle.faust_script.specs.Generated.{each_up_to, to_another}
+use Rattle.faust_script.proofs.Rounds.{each_first, each_more_behind}
+use Rattle.faust_script.proofs.generator.put_from.Goals as goal
+
+pub loop-before-init : goal.loop-before-init
+loop-before-init c = each_first c.args.events.now (λ j. to_another c.args.k c.args.sender j)
+
+pub loop-before-preserved : goal.loop-before-preserved
+loop-before-preserved c =
+    c.in_ok-put_peer.ensures ∙ each_more_behind c.args.events.now c.loop-before.events c.loop-before.before (λ j. to_another c.args.k c.args.sender j) c.loop-before.invariant
