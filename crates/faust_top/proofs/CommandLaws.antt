@@ -1,5 +1,5 @@
 -- The words of the commands: the function that reads them, and the facts that say the same.
-use Rattle.std.proofs.Common.{◌≡◌, ◌≢◌, ◌↔◌, ℕ, ◌^◌, ◌<◌, ◌≤◌, Bool, true, false, cond, leb, ◌&&◌, List, [], ◌∷◌, length, get_or, map, Option, Some, None, refl, sym, ap, ◌∙◌, subst, inl, inr, ◌⊎◌, arith}
+use Rattle.std.proofs.Common.{◌≡◌, ◌≢◌, ℕ, ◌^◌, ◌<◌, ◌≤◌, Bool, true, false, cond, leb, ◌&&◌, List, [], ◌∷◌, length, get_or, map, Option, Some, None, refl, sym, ap, ◌∙◌, subst, inl, inr, ◌⊎◌, arith}
 use Rattle.std.specs.Prelude.{codes}
 use Rattle.std.specs.Fmt.{decimal}
 use Rattle.std.specs.List.{AllByRecursion, find}
@@ -8,10 +8,9 @@ use Rattle.std.proofs.lemmas.Bool.{cases_Bool, cond-true, cond-false, and_parts,
 use Rattle.std.proofs.lemmas.Slice.Eq.{bytes_eq-Decides}
 use Rattle.faust_text.specs.Numbers.{number_of}
 use Rattle.faust_text.proofs.NumberLaws.{numbers_are}
-use Rattle.faust_script.specs.Generated.{IsSampleSize}
 use Rattle.faust_top.specs.declared.words.Command.{Command}
 use Rattle.faust_top.specs.declared.words.Command.TheVariants as commands
-use Rattle.faust_top.specs.Commands.{IsForm, IsInRange, IsNoForm, IsSample, numbers_of, word_of}
+use Rattle.faust_top.specs.Commands.{IsForm, IsInRange, IsNoForm, numbers_of, word_of}
 use Rattle.faust_top.specs.Forms.{between, command_of, number_between, plain_command, plain_commands, sample_command, sample_of}
 
 -- Words as a slice, and as a list.
@@ -134,7 +133,7 @@ sample_form word seed clients ops command found =
           let o_told = (numbers_are ops parts.o).0 o_is.given in
           let is : IsForm (word ∷ seed ∷ clients ∷ ops ∷ []) (commands.Sample parts.s parts.n parts.o) = record {
             words_are = same_four word seed clients ops (codes "sample") (decimal parts.s) (decimal parts.n) (decimal parts.o)
-              ((bytes_eq-Decides word (codes "sample")).0 taken.0) s_told.1 n_told.1 o_told.1;
+                ((bytes_eq-Decides word (codes "sample")).0 taken.0) s_told.1 n_told.1 o_told.1;
             in_range = record {
               seed_fits = s_told.0;
               size = record { clients_count = record { at_least_two = n_is.from; at_most_32 = n_is.to }; from_one = o_is.from; to_3000 = o_is.to };

@@ -1,5 +1,5 @@
 -- The text of an input and its status: that it has one, and no other.
-use Rattle.std.proofs.Common.{◌≡◌, ℕ, ◌<◌, ◌≤◌, ltb, Bool, true, false, cond, List, length, Option, None, Some, Result, Ok, Err, refl, sym, ap, ◌∙◌, subst, inl, inr, ◌⊎◌}
+use Rattle.std.proofs.Common.{◌≡◌, ℕ, true, false, List, length, Option, None, Some, Result, Ok, Err, refl, sym, ap, ◌∙◌, subst, inl, inr, ◌⊎◌}
 use Rattle.std.proofs.lemmas.Bool.{cases_lt, cond-false, cond-true, le-ltb, lt-ltb}
 use Rattle.faust_types.specs.declared.status.Status.{Status}
 use Rattle.faust_types.specs.declared.status.Status.TheVariants.{Done, Usage, Refused, ReadFault, WriteFault, OutOfMemory, Premise}
@@ -10,8 +10,8 @@ use Rattle.faust_top.specs.declared.output.Output.{Output}
 use Rattle.faust_top.specs.declared.words.Command.{Command}
 use Rattle.faust_top.specs.Accepting.{accepted}
 use Rattle.faust_top.specs.Answer.{IsAccepted, IsOver, IsPremiseText, IsRefusedWith, IsTextFor, IsWithin}
-use Rattle.faust_top.specs.Commands.{limit_of}
-use Rattle.faust_top.specs.Output.{is_over, output_of, output_of_accepted, output_of_judged, output_of_refusal, too_long_output}
+use Rattle.faust_top.specs.Commands.{IsReader, limit_of}
+use Rattle.faust_top.specs.Output.{IsDueOfReader, is_over, output_of, output_of_accepted, output_of_judged, too_long_output}
 use Rattle.faust_top.specs.Texts.{collision_text, forged_text, verdict_for}
 
 -- An output is the text of an input, at its status.
@@ -26,15 +26,15 @@ judged_has command input taken (forged entry body) is found =
 judged_has command input taken (collision first second) is found =
     (taken, is, subst (λ (v : Verdict). IsPremiseText v (collision_text first second)) (sym found) refl)
 
-accepted_has : (command : Command) (input : List ℕ) (result : Result Accepted Refusal) → IsWithin (limit_of command) input
-    → accepted command input ≡ result → Has command input (output_of_accepted command result)
-accepted_has command input (Ok taken) few is =
+accepted_has : (command : Command) (input : List ℕ) (result : Result Accepted Refusal) → IsDueOfReader command result
+    → IsWithin (limit_of command) input → accepted command input ≡ result → Has command input (output_of_accepted command result)
+accepted_has command input (Ok taken) reader few is =
     judged_has command input taken (verdict_for command taken.run) (record { not_too_long = few; accepted_is = is }) refl
-accepted_has command input (Err refusal) few is = inr (refusal, few, is, refl)
+accepted_has command input (Err refusal) reader few is = inr (refusal, reader, few, is, refl)
 
-pub input_has : (command : Command) (input : List ℕ) → IsWithin (limit_of command) input
+pub input_has : (command : Command) (input : List ℕ) → IsDueOfReader command (accepted command input) → IsWithin (limit_of command) input
     → Has command input (output_of_accepted command (accepted command input))
-input_has command input few = accepted_has command input (accepted command input) few refl
+input_has command input reader few = accepted_has command input (accepted command input) reader few refl
 
 -- An input is over its limit, or within it.
 over_or_within : (limit : Option ℕ) (input : List ℕ) → (IsOver limit input × (is_over limit input ≡ true)) ⊎ (IsWithin limit input × (is_over limit input ≡ false))
@@ -53,7 +53,7 @@ within_is : (limit : Option ℕ) (input : List ℕ) → IsWithin limit input →
 within_is None input within = refl
 within_is (Some most) input within = le-ltb _ _ within
 
--- Every input has an output.
+-- Every input of a command that reads has an output.
 long : (command : Command) (input : List ℕ) → is_over (limit_of command) input ≡ true → output_of command input ≡ too_long_output
 long command input over = cond-true (is_over (limit_of command) input) too_long_output (output_of_accepted command (accepted command input)) over
 
@@ -61,11 +61,15 @@ short : (command : Command) (input : List ℕ) → is_over (limit_of command) in
     → output_of command input ≡ output_of_accepted command (accepted command input)
 short command input within = cond-false (is_over (limit_of command) input) too_long_output (output_of_accepted command (accepted command input)) within
 
-pub has_output : (command : Command) (input : List ℕ) → Has command input (output_of command input)
-has_output command input =
+due_of_reader : (command : Command) (result : Result Accepted Refusal) → IsReader command → IsDueOfReader command result
+due_of_reader command (Ok taken) reader = tt
+due_of_reader command (Err refusal) reader = reader
+
+pub has_output : (command : Command) (input : List ℕ) → IsReader command → Has command input (output_of command input)
+has_output command input reader =
     elim (over_or_within (limit_of command) input) [
       | inl over ↦ subst (λ (o : Output). Has command input o) (sym (long command input over.1)) (inl (over.0, refl))
-      | inr within ↦ subst (λ (o : Output). Has command input o) (sym (short command input within.1)) (input_has command input within.0)
+      | inr within ↦ subst (λ (o : Output). Has command input o) (sym (short command input within.1)) (input_has command input (due_of_reader command (accepted command input) reader) within.0)
     ]
 
 -- It has no other.
@@ -86,7 +90,7 @@ premise_only command taken (collision first second) text is = ap (given Premise)
 refused_only : (command : Command) (input text : List ℕ) → IsRefusedWith command input text → output_of command input ≡ given Refused text
 refused_only command input text (inl over) = long command input (over_is (limit_of command) input over.0) ∙ ap (given Refused) (sym over.1)
 refused_only command input text (inr at) =
-    short command input (within_is (limit_of command) input at.1) ∙ (ap (output_of_accepted command) at.2 ∙ ap (given Refused) (sym at.3))
+    short command input (within_is (limit_of command) input at.2) ∙ (ap (output_of_accepted command) at.3 ∙ ap (given Refused) (sym at.4))
 
 output_only : (command : Command) (input : List ℕ) (status : Status) (text : List ℕ) → IsTextFor command input status text
     → output_of command input ≡ given status text

@@ -1,5 +1,5 @@
 -- What is accepted is a run whose record can be printed.
-use Rattle.std.proofs.Common.{◌≡◌, ◌≤◌, ℕ, List, length, Ok, refl, inr, sym, ap, subst, arith}
+use Rattle.std.proofs.Common.{◌≡◌, ◌≤◌, ℕ, List, length, Ok, refl, inr, sym, subst, arith}
 use Rattle.faust_types.specs.declared.config.Config.{Config}
 use Rattle.faust_record.specs.Runs.{IsRun, Run}
 use Rattle.faust_script.specs.InRange.{IsScript}
@@ -9,7 +9,6 @@ use Rattle.faust_sim.proofs.Lengths.{played_short}
 use Rattle.faust_store.specs.Reading.{read}
 use Rattle.faust_store.specs.Texts.{IsTextVersion}
 use Rattle.faust_store.proofs.RecordLaws.{few_read}
-use Rattle.faust_top.specs.declared.accepting.Accepted.{Accepted}
 use Rattle.faust_top.specs.Output.{IsPrintable}
 use Rattle.faust_top.proofs.Configs.{played_config}
 

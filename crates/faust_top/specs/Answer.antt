@@ -1,5 +1,5 @@
 -- What one call of `run` promises: which status comes when, what was written, and which counts stand still.
-use Rattle.std.specs.Prelude.{◌≡◌, ℕ, ◌<◌, ◌≤◌, List, [], length, Option, Some, None, IfSome, IsSome, IsSomeAnd, Ok, Err, ◌⊎◌}
+use Rattle.std.specs.Prelude.{◌≡◌, ℕ, ◌<◌, ◌≤◌, List, [], length, Option, Some, None, IfSome, IsSomeAnd, Ok, Err, ◌⊎◌}
 use Rattle.std.specs.Io.KnownBytes.{Appends, IsAtEnd}
 use Rattle.faust_types.specs.declared.status.Status.{Status}
 use Rattle.faust_types.specs.declared.status.Status.TheVariants.{Done, Usage, Refused, ReadFault, WriteFault, OutOfMemory, Premise}
@@ -11,7 +11,7 @@ use Rattle.faust_premises.specs.Premises.{Verdict, clean, forged, collision, pre
 use Rattle.faust_top.specs.declared.accepting.Accepted.{Accepted}
 use Rattle.faust_top.specs.declared.words.Command.{Command}
 use Rattle.faust_top.specs.Accepting.{accepted}
-use Rattle.faust_top.specs.Commands.{IsForm, IsNoForm, limit_of}
+use Rattle.faust_top.specs.Commands.{IsForm, IsNoForm, IsReader, limit_of}
 use Rattle.faust_top.specs.Headline.{IsHeadline}
 use Rattle.faust_top.specs.Texts.{usage_text, collision_text, forged_text, refusal_text, text_of, too_long_text, verdict_for}
 
@@ -27,11 +27,12 @@ pub record IsAccepted (command : Command) (input : List ℕ) (taken : Accepted) 
   pub not_too_long : IsWithin (limit_of command) input
   pub accepted_is : accepted command input ≡ Ok taken
 
--- The whole input is refused, since it is too long; or a line of one that isn't.
+-- The whole input is refused, since it is too long; or a line of one that isn't. A command that reads nothing refuses
+-- nothing.
 abbrev pub IsRefusedWith : Command → List ℕ → List ℕ → Type 0
 IsRefusedWith command input text = (IsOver (limit_of command) input × (text ≡ too_long_text))
-    ⊎ ((refusal : Refusal) × IsWithin (limit_of command) input × (accepted command input ≡ Err refusal)
-      × (text ≡ refusal_text refusal.line (cause_text refusal.cause)))
+    ⊎ ((refusal : Refusal) × IsReader command × IsWithin (limit_of command) input × (accepted command input ≡ Err refusal)
+    × (text ≡ refusal_text refusal.line (cause_text refusal.cause)))
 
 -- Why a run isn't clean, in words.
 abbrev pub IsPremiseText : Verdict → List ℕ → Type 0
@@ -40,7 +41,7 @@ IsPremiseText (forged entry body) text = text ≡ forged_text entry body
 IsPremiseText (collision first second) text = text ≡ collision_text first second
 
 -- Which text an input has at a status: what the command tells of its run, where that is clean; or the line that is
--- refused; or why its run isn't clean. Each input has one text, at one status.
+-- refused; or why its run isn't clean. Each input of a command that reads has one text, at one status.
 abbrev pub IsTextFor : Command → List ℕ → Status → List ℕ → Type 0
 IsTextFor command input Done text = (taken : Accepted) × IsAccepted command input taken × (verdict_for command taken.run ≡ clean)
     × (text ≡ text_of command taken)
@@ -137,7 +138,7 @@ pub record WritesNothing (ends : Ends) : Type 0 where
 pub record IsReadFault (words : List (List ℕ)) (ends : Ends) : Type 0 where
   pub command : Command
   pub form : IsForm words command
-  pub reads : IsSome (limit_of command)
+  pub reads : IsReader command
   pub read_failed : CountsFault ends.reads_failed_before ends.reads_failed_after
   pub nothing : WritesNothing ends
 

@@ -1,5 +1,5 @@
 -- The commands: the words of each, and what it reads. The promise of `run` rests on this file.
-use Rattle.std.specs.Prelude.{◌≡◌, ℕ, ◌^◌, ◌<◌, List, [], ◌∷◌, codes, Option, Some, None}
+use Rattle.std.specs.Prelude.{◌≡◌, ℕ, ◌^◌, ◌<◌, List, [], ◌∷◌, codes, Option, Some, None, IsSome}
 use Rattle.std.specs.Fmt.{decimal}
 use Rattle.faust_script.specs.Generated.{IsSampleSize}
 use Rattle.faust_top.specs.declared.words.Command.{Command}
@@ -53,3 +53,7 @@ limit_of commands.Audit = Some 400000000
 limit_of commands.Json = Some 1048576
 limit_of commands.Migrate = Some 400000000
 limit_of (commands.Sample seed clients ops) = None
+
+-- The commands that read an input. Only they can refuse one.
+abbrev pub IsReader : Command → Type 0
+IsReader command = IsSome (limit_of command)

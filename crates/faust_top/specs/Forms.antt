@@ -1,5 +1,5 @@
 -- The command of words, as a function. No promise rests on this: `specs/Commands.antt` says the same as facts.
-use Rattle.std.specs.Prelude.{ℕ, nat_le, ◌&&◌, cond, List, [], ◌∷◌, codes, Option, Some, None, if◌then◌else◌}
+use Rattle.std.specs.Prelude.{ℕ, nat_le, ◌&&◌, List, [], ◌∷◌, codes, Option, Some, None, if◌then◌else◌}
 use Rattle.std.specs.List.{find}
 use Rattle.std.specs.Str.{bytes_eq}
 use Rattle.faust_text.specs.Numbers.{number_of}

@@ -2,7 +2,7 @@
 ghost use Rattle.std.specs.Prelude.{◌≡◌, ◌≤◌, IfOk, length};
 ghost use Rattle.faust_top.specs.Accepting.{accepted};
 ghost use Rattle.faust_top.specs.Commands.{IsInRange};
-ghost use Rattle.faust_top.specs.Output.{AreRuns, IsPrintable, output_of_accepted, output_of_judged, output_of_refusal};
+ghost use Rattle.faust_top.specs.Output.{AreRuns, IsDueOfReader, IsPrintable, output_of_accepted, output_of_judged, output_of_refusal};
 ghost use Rattle.faust_top.specs.Texts.{found_of, text_of, verdict_for};
 ghost use Rattle.faust_audit.specs.Audited.{verdict_in};
 
@@ -30,6 +30,7 @@ pub fn answer(alloc: Global, command: Command, input: &[u8]) -> Result<Output, O
     requires { IsInRange command }
     ensures output { IfOk result (λ output. output ≡ output_of_accepted command (accepted command input.now)) }
     ensures are_runs { IfOk result (λ _. AreRuns command input.now) }
+    ensures of_reader { IfOk result (λ _. IsDueOfReader command (accepted command input.now)) }
 {
     match accept(alloc, command, input) {
         Ok(taken) => accepted_output(alloc, command, &taken),
@@ -48,11 +49,7 @@ fn refused_output(alloc: Global, line: u64, cause: Cause) -> Result<Output, OutO
     })
 }
 
-fn accepted_output(
-    alloc: Global,
-    command: Command,
-    taken: &Accepted,
-) -> Result<Output, OutOfMemory>
+fn accepted_output(alloc: Global, command: Command, taken: &Accepted) -> Result<Output, OutOfMemory>
     requires { IsPrintable taken.now }
     ensures { IfOk result (λ output. output ≡ output_of_judged command taken.now (verdict_for command taken.now.run)) }
 {

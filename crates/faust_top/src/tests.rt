@@ -105,11 +105,36 @@ fn each_command_has_its_text(rt: HostRuntime) -> Result<(), Fail> {
         (&["record"], first.as_slice(), Status::Done, FIRST_RECORD),
         (&["json"], first.as_slice(), Status::Done, FIRST_JSON),
         (&["json"], forging.as_slice(), Status::Premise, FORGED),
-        (&["audit"], FIRST_RECORD.as_bytes(), Status::Done, FIRST_REPORT),
-        (&["audit"], SHORT_MIGRATED.as_bytes(), Status::Done, SHORT_REPORT),
-        (&["audit"], b"", Status::Refused, "refused: line 1: cut off\n"),
-        (&["migrate"], SHORT_RECORD.as_bytes(), Status::Done, SHORT_MIGRATED),
-        (&["migrate"], SHORT_MIGRATED.as_bytes(), Status::Done, SHORT_MIGRATED),
+        (
+            &["audit"],
+            FIRST_RECORD.as_bytes(),
+            Status::Done,
+            FIRST_REPORT,
+        ),
+        (
+            &["audit"],
+            SHORT_MIGRATED.as_bytes(),
+            Status::Done,
+            SHORT_REPORT,
+        ),
+        (
+            &["audit"],
+            b"",
+            Status::Refused,
+            "refused: line 1: cut off\n",
+        ),
+        (
+            &["migrate"],
+            SHORT_RECORD.as_bytes(),
+            Status::Done,
+            SHORT_MIGRATED,
+        ),
+        (
+            &["migrate"],
+            SHORT_MIGRATED.as_bytes(),
+            Status::Done,
+            SHORT_MIGRATED,
+        ),
         (&["sample", "1", "2", "1"], b"", Status::Done, SUMMARY),
     ];
     for (form, input, status, text) in cases {
@@ -168,11 +193,7 @@ fn other_words_are_no_form(rt: HostRuntime) -> Result<(), Fail> {
         let mut sink = MemSink::new(rt.alloc(), 100, 100, &[])?;
         let status = run(rt.alloc(), words.as_slice(), &mut source, &mut sink);
         assert_eq!(rt; status, Status::Usage, "{form:?}");
-        assert_eq!(rt;
-            sink.bytes(),
-            USAGE.as_bytes(),
-            "{form:?}"
-        );
+        assert_eq!(rt; sink.bytes(), USAGE.as_bytes(), "{form:?}");
         assert_eq!(rt; source.faults(), 0, "{form:?}");
     }
     Ok(())

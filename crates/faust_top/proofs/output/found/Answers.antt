@@ -1,6 +1,5 @@
-use Rattle.std.proofs.Common.{◌≡◌, ℕ, List, IfOk, ap, subst}
+use Rattle.std.proofs.Common.{◌≡◌, List, IfOk, subst}
 use Rattle.faust_types.specs.declared.operation.OpName.{OpName}
-use Rattle.faust_record.specs.declared.findings.Findings.{Findings}
 use Rattle.faust_audit.specs.Findings.{findings_of}
 use Rattle.faust_views.proofs.Linear.{views_are}
 use Rattle.faust_top.proofs.output.found.Goals as goal
