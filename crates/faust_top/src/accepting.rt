@@ -39,6 +39,7 @@ impl Accepted {
         ensures parts { result ≡ record { run = run; format = format } }
         ensures is_run { IsRun run.config run.entries }
     {
+        // (a record tells with its config that it is a run)
         let _config = run.config();
         Accepted { run, format }
     }
