@@ -1,4 +1,6 @@
-mod Words
+mod CommandLaws
+mod Configs
+mod Printable
 mod OutputLaws
 mod ReadRuns
 mod Promising

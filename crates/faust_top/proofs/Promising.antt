@@ -1,5 +1,5 @@
 -- What is promised of a clean run holds of it.
-use Rattle.std.proofs.Common.{◌≡◌, ◌<◌, ℕ, List, [], length, Option, None, Some, refl, subst, arith, append-nil}
+use Rattle.std.proofs.Common.{◌≡◌, ℕ, List, [], Option, None, Some, refl, subst, arith, append-nil}
 use Rattle.faust_record.specs.Runs.{IsRun, Run}
 use Rattle.faust_premises.specs.Premises.{Collision, Forgery, IsClean, Verdict, clean, first_collision, first_forged, premises_of, verdict_of}
 use Rattle.faust_record.specs.declared.entry.Entry.{Entry}
@@ -10,11 +10,13 @@ use Rattle.faust_joined.proofs.Comparing.{versions-comparable}
 use Rattle.faust_joined.proofs.Linear.{order-linear}
 use Rattle.faust_joined.proofs.Running.{known-front, notice-after}
 use Rattle.faust_joined.proofs.Unforged.{peers-made}
-use Rattle.faust_top.specs.Answer.{IsRunOf, Promises, max_input}
+use Rattle.faust_top.specs.declared.words.Command.{Command}
+use Rattle.faust_top.specs.Answer.{IsOver, IsWithin, Promises}
+use Rattle.faust_top.specs.Commands.{limit_of}
 use Rattle.faust_audit.specs.Departure.{first_departure}
 use Rattle.faust_joined.specs.Promised.{ArePeersMade}
 use Rattle.faust_top.specs.Headline.{AreCutsRight, AreMeetingsNoticed, DoNoticesFollow, IsHeadline, IsHonestlyServed}
-use Rattle.faust_top.specs.Output.{IsPlayedRun, IsReadRun}
+use Rattle.faust_top.specs.Output.{AreRuns}
 
 -- a run of which nothing is found is clean
 clean-parts : (forgery : Option Forgery) (found : Option Collision) → verdict_of forgery found ≡ clean
@@ -64,14 +66,17 @@ headline run is kept =
       honest = honestly-served run is made;
     }
 
-pub promised : (input : List ℕ) → IsReadRun input → Promises input
-unfolding Promises IsReadRun IsPlayedRun
-promised input reads = λ run is found.
-    headline run (reads is.script is.script_is run is.run_is) (is_clean run found)
+pub promised : (command : Command) (input : List ℕ) → AreRuns command input → Promises command input
+unfolding Promises AreRuns
+promised command input runs = λ taken is found.
+    headline taken.run (runs taken is.accepted_is) (is_clean taken.run found)
 
 -- an input that is too long has no run
-pub promised_too_long : (input : List ℕ) → max_input < length input → Promises input
+no_both : (limit : Option ℕ) (input : List ℕ) → IsOver limit input → IsWithin limit input → ⊥
+no_both None input over within = over
+no_both (Some most) input over within = omega (arith, over, within)
+
+pub promised_too_long : (command : Command) (input : List ℕ) → IsOver (limit_of command) input → Promises command input
 unfolding Promises
-promised_too_long input many = λ run is found.
-    let few = is.not_too_long in
-    absurd (omega (arith, many, few))
+promised_too_long command input over = λ taken is found.
+    absurd (no_both (limit_of command) input over is.not_too_long)

@@ -1,45 +1,38 @@
 -- What one call of `run` promises: which status comes when, what was written, and which counts stand still.
-use Rattle.std.specs.Prelude.{◌≡◌, ℕ, ◌<◌, ◌≤◌, List, [], ◌∷◌, length, codes, Option, IfSome, Ok, Err, ◌⊎◌}
+use Rattle.std.specs.Prelude.{◌≡◌, ℕ, ◌<◌, ◌≤◌, List, [], length, Option, Some, None, IfSome, IsSomeAnd, Ok, Err, ◌⊎◌}
 use Rattle.std.specs.Io.KnownBytes.{Appends, IsAtEnd}
 use Rattle.faust_types.specs.declared.status.Status.{Status}
 use Rattle.faust_types.specs.declared.status.Status.TheVariants.{Done, Usage, Refused, ReadFault, WriteFault, OutOfMemory, Premise}
 use Rattle.faust_io.specs.Faults.{CountsFault}
 use Rattle.faust_io.specs.Writing.{AppendsPrefix}
 use Rattle.faust_text.specs.Causes.{cause_text}
-use Rattle.faust_script.specs.declared.script.Script.{Script}
-use Rattle.faust_script.specs.Parsing.{Refusal, parsed}
-use Rattle.faust_record.specs.Runs.{Run}
-use Rattle.faust_sim.specs.Play.{played}
+use Rattle.faust_script.specs.Parsing.{Refusal}
 use Rattle.faust_premises.specs.Premises.{Verdict, clean, forged, collision, premises_of}
-use Rattle.faust_views.specs.Forks.{views_of}
-use Rattle.faust_audit.specs.Findings.{findings_of}
-use Rattle.faust_report.specs.Text.{report_text}
+use Rattle.faust_top.specs.declared.accepting.Accepted.{Accepted}
+use Rattle.faust_top.specs.declared.words.Command.{Command}
+use Rattle.faust_top.specs.Accepting.{accepted}
+use Rattle.faust_top.specs.Commands.{IsForm, IsNoForm, IsReader, limit_of}
 use Rattle.faust_top.specs.Headline.{IsHeadline}
-use Rattle.faust_top.specs.Texts.{usage_text, collision_text, forged_text, refusal_text, too_long_text}
+use Rattle.faust_top.specs.Texts.{usage_text, collision_text, forged_text, refusal_text, text_of, too_long_text, verdict_for}
 
--- The one form of the words.
-abbrev pub AreScriptWords : List (List ℕ) → Type 0
-AreScriptWords words = words ≡ codes "script" ∷ []
+-- An input is over its limit, or within it.
+abbrev pub IsOver : Option ℕ → List ℕ → Type 0
+IsOver limit input = IsSomeAnd limit (λ most. most < length input)
 
--- An input has at most so many bytes.
-abbrev pub max_input : ℕ
-max_input = 1048576
+abbrev pub IsWithin : Option ℕ → List ℕ → Type 0
+IsWithin limit input = IfSome limit (λ most. length input ≤ most)
 
--- The run of an input: it isn't too long, it is the text of a script, and all events of that can be played.
-pub record IsRunOf (input : List ℕ) (run : Run) : Type 0 where
-  pub not_too_long : length input ≤ max_input
-  pub script : Script
-  pub script_is : parsed input ≡ Ok script
-  pub run_is : played script ≡ Ok run
+-- What a command accepts of an input: it isn't too long, and no line of it is refused.
+pub record IsAccepted (command : Command) (input : List ℕ) (taken : Accepted) : Type 0 where
+  pub not_too_long : IsWithin (limit_of command) input
+  pub accepted_is : accepted command input ≡ Ok taken
 
--- The line that is refused in an input that isn't too long: the first that breaks the grammar; or, in a script, that
--- of the first event that can't be played.
-abbrev pub IsRefusal : List ℕ → Refusal → Type 0
-IsRefusal input refusal = (parsed input ≡ Err refusal) ⊎ ((script : Script) × (parsed input ≡ Ok script) × (played script ≡ Err refusal))
-
-abbrev pub IsRefusedWith : List ℕ → List ℕ → Type 0
-IsRefusedWith input text = ((max_input < length input) × (text ≡ too_long_text))
-    ⊎ ((refusal : Refusal) × (length input ≤ max_input) × IsRefusal input refusal × (text ≡ refusal_text refusal.line (cause_text refusal.cause)))
+-- The whole input is refused, since it is too long; or a line of one that isn't. A command that reads nothing refuses
+-- nothing.
+abbrev pub IsRefusedWith : Command → List ℕ → List ℕ → Type 0
+IsRefusedWith command input text = (IsOver (limit_of command) input × (text ≡ too_long_text))
+    ⊎ ((refusal : Refusal) × IsReader command × IsWithin (limit_of command) input × (accepted command input ≡ Err refusal)
+    × (text ≡ refusal_text refusal.line (cause_text refusal.cause)))
 
 -- Why a run isn't clean, in words.
 abbrev pub IsPremiseText : Verdict → List ℕ → Type 0
@@ -47,17 +40,17 @@ IsPremiseText clean text = ⊥
 IsPremiseText (forged entry body) text = text ≡ forged_text entry body
 IsPremiseText (collision first second) text = text ≡ collision_text first second
 
--- Which text an input has at a status: the report of its run, where that is clean; or the line that is refused; or why
--- its run isn't clean. Each input has one text, at one status.
-abbrev pub IsTextFor : List ℕ → Status → List ℕ → Type 0
-IsTextFor input Done text = (run : Run) × IsRunOf input run × (premises_of run ≡ clean)
-    × (text ≡ report_text (findings_of run (views_of run)))
-IsTextFor input Refused text = IsRefusedWith input text
-IsTextFor input Premise text = (run : Run) × IsRunOf input run × IsPremiseText (premises_of run) text
-IsTextFor input Usage text = ⊥
-IsTextFor input ReadFault text = ⊥
-IsTextFor input WriteFault text = ⊥
-IsTextFor input OutOfMemory text = ⊥
+-- Which text an input has at a status: what the command tells of its run, where that is clean; or the line that is
+-- refused; or why its run isn't clean. Each input of a command that reads has one text, at one status.
+abbrev pub IsTextFor : Command → List ℕ → Status → List ℕ → Type 0
+IsTextFor command input Done text = (taken : Accepted) × IsAccepted command input taken × (verdict_for command taken.run ≡ clean)
+    × (text ≡ text_of command taken)
+IsTextFor command input Refused text = IsRefusedWith command input text
+IsTextFor command input Premise text = (taken : Accepted) × IsAccepted command input taken × IsPremiseText (verdict_for command taken.run) text
+IsTextFor command input Usage text = ⊥
+IsTextFor command input ReadFault text = ⊥
+IsTextFor command input WriteFault text = ⊥
+IsTextFor command input OutOfMemory text = ⊥
 
 -- What stands in the source and in the sink before and after the call, where they tell it, and their counts of
 -- faults.
@@ -72,44 +65,58 @@ pub record Ends : Type 0 where
   pub writes_failed_after : ℕ
 
 -- What is promised of the run of an input, where that is clean.
-unfoldable pub Promises : List ℕ → Type 0
-Promises input = (run : Run) → IsRunOf input run → premises_of run ≡ clean → IsHeadline run
+unfoldable pub Promises : Command → List ℕ → Type 0
+Promises command input = (taken : Accepted) → IsAccepted command input taken → premises_of taken.run ≡ clean → IsHeadline taken.run
 
--- The text of the input: of the bytes of the source, where it tells them, and of some bytes where it doesn't. What it
--- says of a clean run is what is promised of that.
-pub record IsTextOfSource (left : Option (List ℕ)) (status : Status) (text : List ℕ) : Type 0 where
+-- The input of a command: the bytes of the source, where it tells them, and some bytes where it doesn't. A command that
+-- has no limit reads nothing.
+abbrev pub IsInput : Option ℕ → Option (List ℕ) → List ℕ → Type 0
+IsInput None left input = input ≡ []
+IsInput (Some most) left input = IfSome left (λ content. content ≡ input)
+
+-- The source was left alone where nothing is read, and else it was read to its end; where its bytes were refused, some
+-- of them were read.
+abbrev pub IsRead : Option ℕ → Status → Option (List ℕ) → Option (List ℕ) → Type 0
+IsRead None status before after = after ≡ before
+IsRead (Some most) Done before after = IsAtEnd after
+IsRead (Some most) Premise before after = IsAtEnd after
+IsRead (Some most) Usage before after = Unit {0}
+IsRead (Some most) Refused before after = Unit {0}
+IsRead (Some most) ReadFault before after = Unit {0}
+IsRead (Some most) WriteFault before after = Unit {0}
+IsRead (Some most) OutOfMemory before after = Unit {0}
+
+-- The words are no form of the program: the usage line is due, and the source was left alone.
+pub record IsUsageDue (words : List (List ℕ)) (ends : Ends) (text : List ℕ) : Type 0 where
+  pub no_form : IsNoForm words
+  pub text_is : text ≡ usage_text
+  pub source_kept : ends.left_after ≡ ends.left_before
+
+-- The text of the input of the command is due. What is promised of its run, where that is clean, holds.
+pub record IsTextDue (words : List (List ℕ)) (ends : Ends) (status : Status) (text : List ℕ) : Type 0 where
+  pub command : Command
+  pub form : IsForm words command
   pub input : List ℕ
-  pub told : IfSome left (λ content. content ≡ input)
-  pub text_is : IsTextFor input status text
-  pub promised : Promises input
+  pub input_is : IsInput (limit_of command) ends.left_before input
+  pub text_is : IsTextFor command input status text
+  pub promised : Promises command input
+  pub source_read : IsRead (limit_of command) status ends.left_before ends.left_after
 
--- Which text is due at a status. Wrong words have the usage line, whatever the source holds, and the words of the
--- program the text of the input.
-abbrev pub IsDue : List (List ℕ) → Option (List ℕ) → Status → List ℕ → Type 0
-IsDue words left Usage text = (AreScriptWords words → ⊥) × (text ≡ usage_text)
-IsDue words left Refused text = AreScriptWords words × IsTextOfSource left Refused text
-IsDue words left Premise text = AreScriptWords words × IsTextOfSource left Premise text
-IsDue words left Done text = AreScriptWords words × IsTextOfSource left Done text
-IsDue words left ReadFault text = ⊥
-IsDue words left WriteFault text = ⊥
-IsDue words left OutOfMemory text = ⊥
-
--- The source was left alone by wrong words, and else read to its end; where it was refused, some of it was read.
-abbrev pub IsRead : Status → Option (List ℕ) → Option (List ℕ) → Type 0
-IsRead Usage before after = after ≡ before
-IsRead Done before after = IsAtEnd after
-IsRead Premise before after = IsAtEnd after
-IsRead Refused before after = Unit {0}
-IsRead ReadFault before after = Unit {0}
-IsRead WriteFault before after = Unit {0}
-IsRead OutOfMemory before after = Unit {0}
+-- Which text is due at a status.
+abbrev pub IsDue : List (List ℕ) → Ends → Status → List ℕ → Type 0
+IsDue words ends Usage text = IsUsageDue words ends text
+IsDue words ends Refused text = IsTextDue words ends Refused text
+IsDue words ends Premise text = IsTextDue words ends Premise text
+IsDue words ends Done text = IsTextDue words ends Done text
+IsDue words ends ReadFault text = ⊥
+IsDue words ends WriteFault text = ⊥
+IsDue words ends OutOfMemory text = ⊥
 
 -- The whole text of the status was written, and no count changed.
 pub record IsWhole (words : List (List ℕ)) (ends : Ends) (status : Status) : Type 0 where
   pub text : List ℕ
-  pub due : IsDue words ends.left_before status text
+  pub due : IsDue words ends status text
   pub written : Appends ends.held_before ends.held_after text
-  pub source_read : IsRead status ends.left_before ends.left_after
   pub reads_kept : ends.reads_failed_after ≡ ends.reads_failed_before
   pub writes_kept : ends.writes_failed_after ≡ ends.writes_failed_before
 
@@ -117,9 +124,8 @@ pub record IsWhole (words : List (List ℕ)) (ends : Ends) (status : Status) : T
 pub record IsCutOff (words : List (List ℕ)) (ends : Ends) : Type 0 where
   pub status : Status
   pub text : List ℕ
-  pub due : IsDue words ends.left_before status text
+  pub due : IsDue words ends status text
   pub prefix : AppendsPrefix ends.held_before ends.held_after text
-  pub source_read : IsRead status ends.left_before ends.left_after
   pub reads_kept : ends.reads_failed_after ≡ ends.reads_failed_before
   pub write_failed : CountsFault ends.writes_failed_before ends.writes_failed_after
 
@@ -128,18 +134,28 @@ pub record WritesNothing (ends : Ends) : Type 0 where
   pub held : ends.held_after ≡ ends.held_before
   pub writes_kept : ends.writes_failed_after ≡ ends.writes_failed_before
 
+-- A read failed, of a command that reads.
+pub record IsReadFault (words : List (List ℕ)) (ends : Ends) : Type 0 where
+  pub command : Command
+  pub form : IsForm words command
+  pub reads : IsReader command
+  pub read_failed : CountsFault ends.reads_failed_before ends.reads_failed_after
+  pub nothing : WritesNothing ends
+
+-- There was no memory for what a command needs.
+pub record IsOutOfMemory (words : List (List ℕ)) (ends : Ends) : Type 0 where
+  pub command : Command
+  pub form : IsForm words command
+  pub source_read : IsRead (limit_of command) OutOfMemory ends.left_before ends.left_after
+  pub reads_kept : ends.reads_failed_after ≡ ends.reads_failed_before
+  pub nothing : WritesNothing ends
+
 -- The promise of `run`, status by status.
 abbrev pub IsAnswer : List (List ℕ) → Ends → Status → Type 0
 IsAnswer words ends Done = IsWhole words ends Done
 IsAnswer words ends Usage = IsWhole words ends Usage
 IsAnswer words ends Refused = IsWhole words ends Refused
-IsAnswer words ends ReadFault = AreScriptWords words × CountsFault ends.reads_failed_before ends.reads_failed_after × WritesNothing ends
+IsAnswer words ends ReadFault = IsReadFault words ends
 IsAnswer words ends WriteFault = IsCutOff words ends
-IsAnswer words ends OutOfMemory = AreScriptWords words × (ends.reads_failed_after ≡ ends.reads_failed_before) × WritesNothing ends
+IsAnswer words ends OutOfMemory = IsOutOfMemory words ends
 IsAnswer words ends Premise = IsWhole words ends Premise
-
--- How writing the text of a status ends.
-abbrev pub EndsWriting : Status → List ℕ → Option (List ℕ) → Option (List ℕ) → ℕ → ℕ → Status → Type 0
-EndsWriting status text before after failed_before failed_after result =
-    ((result ≡ status) × Appends before after text × (failed_after ≡ failed_before))
-    ⊎ ((result ≡ WriteFault) × AppendsPrefix before after text × CountsFault failed_before failed_after)

@@ -1,11 +1,45 @@
--- The lines that are no report. Every promise on what `run` writes rests on these.
+-- The texts that `run` writes. Every promise on what it writes rests on these.
 use Rattle.std.specs.Prelude.{ℕ, List, ◌++◌, codes}
 use Rattle.std.specs.Fmt.{decimal}
 use Rattle.hex.specs.Hex.{encode_lower}
+use Rattle.faust_record.specs.Runs.{Run}
+use Rattle.faust_record.specs.declared.findings.Findings.{Findings}
+use Rattle.faust_premises.specs.Premises.{Verdict, clean, premises_of}
+use Rattle.faust_views.specs.Forks.{views_of}
+use Rattle.faust_audit.specs.Findings.{findings_of}
+use Rattle.faust_report.specs.Json.{json_text}
+use Rattle.faust_report.specs.Summary.{summary_text}
+use Rattle.faust_report.specs.Text.{report_text}
+use Rattle.faust_store.specs.Texts.{record_text}
+use Rattle.faust_top.specs.declared.accepting.Accepted.{Accepted}
+use Rattle.faust_top.specs.declared.words.Command.{Command}
+use Rattle.faust_top.specs.declared.words.Command.TheVariants as commands
+
+-- What is found of a run, with the views of its clients.
+abbrev pub found_of : Run → Findings
+found_of run = findings_of run (views_of run)
+
+-- What a command tells of the run that it accepted.
+abbrev pub text_of : Command → Accepted → List ℕ
+text_of commands.Script taken = report_text (found_of taken.run)
+text_of commands.Record taken = record_text taken.run taken.format
+text_of commands.Audit taken = report_text (found_of taken.run)
+text_of commands.Json taken = json_text (found_of taken.run)
+text_of commands.Migrate taken = record_text taken.run 2
+text_of (commands.Sample seed clients ops) taken = summary_text seed (found_of taken.run)
+
+-- Whether a run is clean. The commands that write a record don't look: they tell of any run.
+abbrev pub verdict_for : Command → Run → Verdict
+verdict_for commands.Script run = premises_of run
+verdict_for commands.Record run = clean
+verdict_for commands.Audit run = premises_of run
+verdict_for commands.Json run = premises_of run
+verdict_for commands.Migrate run = clean
+verdict_for (commands.Sample seed clients ops) run = premises_of run
 
 -- Where the words are no form of the program.
 abbrev pub usage_text : List ℕ
-usage_text = codes "usage: faust script\n"
+usage_text = codes "usage: faust script | record | audit | json | migrate | sample SEED CLIENTS OPS\n"
 
 -- Where a line is refused. Line 0 stands for the whole input, which is too long.
 abbrev pub refusal_text : ℕ → List ℕ → List ℕ

@@ -1,18 +1,24 @@
-// One call from bytes to bytes: `run` reads a script from a source, plays it on clients and a server that lies by the
-// script, judges the run, and writes the report of a clean run to a sink, or why there is none.
+// One call from bytes to bytes: `run` does what the words of the program say. It plays a script, or reads a record, or
+// plays the script that is made from a seed; judges the run; and writes a report, a record or a summary to a sink, or why
+// there is none.
 //
-// `specs/Answer.antt` comes first: what each status promises. `specs/Texts.antt` has the lines that are no report.
-// `specs/Output.antt` says the same of an input as one function, and helps the proofs.
+// `specs/Answer.antt` comes first: what each status promises. `specs/Commands.antt` has the words and what each command
+// reads, `specs/Accepting.antt` the run that a command speaks of, `specs/Texts.antt` what is told of it and the lines that
+// stand in place of that, and `specs/Headline.antt` what is promised of each clean run. `specs/Forms.antt` and
+// `specs/Output.antt` say the same of words and inputs as functions, and help the proofs.
 //
-// What a script is, how it is played, when a run is clean and what a report says are the business of the crates below:
-// `parsed`, `played`, `premises_of`, `findings_of` and `report_text`.
+// What a script is, how it is played, how a record reads, when a run is clean and what a report says are the business of
+// the crates below: `parsed`, `played`, `generated`, `read`, `record_text`, `premises_of`, `findings_of`,
+// `report_text`, `json_text` and `summary_text`.
 #![tactic(auto)]
 
+mod accepting;
 pub mod laws;
 mod lines;
 mod output;
 #[cfg(test)]
 mod tests;
 mod top;
+mod words;
 
 pub use top::run;

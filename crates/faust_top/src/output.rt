@@ -1,17 +1,18 @@
-// What an input is answered with: the report of its run, or the line that stands in place of it.
+// What an input is answered with: what the command tells of its run, or the line that stands in place of it.
 ghost use Rattle.std.specs.Prelude.{◌≡◌, ◌≤◌, IfOk, length};
-ghost use Rattle.faust_premises.specs.Premises.{premises_of};
-ghost use Rattle.faust_script.specs.InRange.{IsScript};
-ghost use Rattle.faust_script.specs.Parsing.{parsed};
-ghost use Rattle.faust_sim.specs.Play.{played};
-ghost use Rattle.faust_top.specs.Output.{IsPlayedRun, IsReadRun, output_of_judged, output_of_played, output_of_refusal, output_of_script, report_of};
+ghost use Rattle.faust_top.specs.Accepting.{accepted};
+ghost use Rattle.faust_top.specs.Commands.{IsInRange};
+ghost use Rattle.faust_top.specs.Output.{AreRuns, IsDueOfReader, IsPrintable, output_of_accepted, output_of_judged, output_of_refusal};
+ghost use Rattle.faust_top.specs.Texts.{found_of, text_of, verdict_for};
+ghost use Rattle.faust_audit.specs.Audited.{verdict_in};
 
+use crate::accepting::{AcceptError, Accepted, accept};
 use crate::lines::{collision_line, forged_line, refusal_line};
+use crate::words::Command;
 use faust_audit::{Premises, findings, premises};
-use faust_record::RunRecord;
-use faust_report::text;
-use faust_script::{Script, ScriptError, parse};
-use faust_sim::{PlayError, play};
+use faust_record::{Findings, RunRecord};
+use faust_report::{json, summary, text};
+use faust_store::print_record;
 use faust_text::Cause;
 use faust_types::{Bytes, OutOfMemory, Status};
 use faust_views::views;
@@ -24,27 +25,17 @@ pub struct Output {
     pub text: Bytes,
 }
 
-/// What an input that isn't too long is answered with.
-pub fn script_output(alloc: Global, input: &[u8]) -> Result<Output, OutOfMemory>
-    ensures output { IfOk result (λ output. output ≡ output_of_script (parsed input.now)) }
-    ensures is_run { IfOk result (λ _. IsReadRun input.now) }
+/// What a command answers to an input that isn't too long.
+pub fn answer(alloc: Global, command: Command, input: &[u8]) -> Result<Output, OutOfMemory>
+    requires { IsInRange command }
+    ensures output { IfOk result (λ output. output ≡ output_of_accepted command (accepted command input.now)) }
+    ensures are_runs { IfOk result (λ _. AreRuns command input.now) }
+    ensures of_reader { IfOk result (λ _. IsDueOfReader command (accepted command input.now)) }
 {
-    match parse(alloc, input) {
-        Ok(script) => played_output(alloc, &script),
-        Err(ScriptError::BadLine { line, cause }) => refused_output(alloc, line, cause),
-        Err(ScriptError::OutOfMemory) => Err(OutOfMemory),
-    }
-}
-
-fn played_output(alloc: Global, script: &Script) -> Result<Output, OutOfMemory>
-    requires { IsScript script.now }
-    ensures output { IfOk result (λ output. output ≡ output_of_played (played script.now)) }
-    ensures is_run { IfOk result (λ _. IsPlayedRun script.now) }
-{
-    match play(alloc, script) {
-        Ok(run) => judged_output(alloc, &run),
-        Err(PlayError::Cannot { line, cause }) => refused_output(alloc, line, cause),
-        Err(PlayError::OutOfMemory) => Err(OutOfMemory),
+    match accept(alloc, command, input) {
+        Ok(taken) => accepted_output(alloc, command, &taken),
+        Err(AcceptError::Refused { line, cause }) => refused_output(alloc, line, cause),
+        Err(AcceptError::OutOfMemory) => Err(OutOfMemory),
     }
 }
 
@@ -58,12 +49,12 @@ fn refused_output(alloc: Global, line: u64, cause: Cause) -> Result<Output, OutO
     })
 }
 
-fn judged_output(alloc: Global, run: &RunRecord) -> Result<Output, OutOfMemory>
-    requires { length run.now.entries ≤ 20000 }
-    ensures { IfOk result (λ output. output ≡ output_of_judged run.now (premises_of run.now)) }
+fn accepted_output(alloc: Global, command: Command, taken: &Accepted) -> Result<Output, OutOfMemory>
+    requires { IsPrintable taken.now }
+    ensures { IfOk result (λ output. output ≡ output_of_judged command taken.now (verdict_for command taken.now.run)) }
 {
-    let (status, text) = match premises(alloc, run)? {
-        Premises::Clean => (Status::Done, report(alloc, run)?),
+    let (status, text) = match verdict(alloc, command, &taken.run)? {
+        Premises::Clean => (Status::Done, told(alloc, command, taken)?),
         Premises::Forged { entry, body } => {
             (Status::Premise, forged_line(alloc, entry, body.as_slice())?)
         }
@@ -75,11 +66,36 @@ fn judged_output(alloc: Global, run: &RunRecord) -> Result<Output, OutOfMemory>
     Ok(Output { status, text })
 }
 
-fn report(alloc: Global, run: &RunRecord) -> Result<Bytes, OutOfMemory>
+/// Whether the run is clean, as far as the command looks.
+fn verdict(alloc: Global, command: Command, run: &RunRecord) -> Result<Premises, OutOfMemory>
+    ensures { IfOk result (λ found. verdict_in found ≡ verdict_for command run.now) }
+{
+    match command {
+        Command::Record | Command::Migrate => Ok(Premises::Clean),
+        Command::Script | Command::Audit | Command::Json | Command::Sample { .. } => {
+            premises(alloc, run)
+        }
+    }
+}
+
+/// What the command tells of the run.
+fn told(alloc: Global, command: Command, taken: &Accepted) -> Result<Bytes, OutOfMemory>
+    requires { IsPrintable taken.now }
+    ensures { IfOk result (λ text. text ≡ text_of command taken.now) }
+{
+    match command {
+        Command::Script | Command::Audit => text(alloc, &found(alloc, &taken.run)?),
+        Command::Record => print_record(alloc, &taken.run, taken.format),
+        Command::Json => json(alloc, &found(alloc, &taken.run)?),
+        Command::Migrate => print_record(alloc, &taken.run, 2),
+        Command::Sample { seed, .. } => summary(alloc, &found(alloc, &taken.run)?, seed),
+    }
+}
+
+fn found(alloc: Global, run: &RunRecord) -> Result<Findings, OutOfMemory>
     requires { length run.now.entries ≤ 20000 }
-    ensures { IfOk result (λ text. text ≡ report_of run.now) }
+    ensures { IfOk result (λ found. found ≡ found_of run.now) }
 {
     let views = views(alloc, run)?;
-    let findings = findings(alloc, run, views)?;
-    text(alloc, &findings)
+    findings(alloc, run, views)
 }

@@ -1,21 +1,22 @@
-ghost use Rattle.std.specs.Prelude.{◌↔◌, IsTrue, map, string_bytes};
-ghost use Rattle.faust_top.specs.Answer.{AreScriptWords, EndsWriting, IsAnswer};
+ghost use Rattle.std.specs.Prelude.{map, string_bytes};
+ghost use Rattle.faust_top.specs.Answer.{IsAnswer};
+ghost use Rattle.faust_top.specs.Commands.{limit_of};
+ghost use Rattle.faust_top.specs.Output.{EndsWriting, ReadsInput};
 
-use crate::output::script_output;
+use crate::output::answer;
+use crate::words::Command;
 use faust_io::{ReadError, Sink, Source, read_whole, write_whole};
-use faust_types::{OutOfMemory, Status};
+use faust_types::{Bytes, OutOfMemory, Status};
 use std::alloc::Global;
 
-/// The most bytes of an input.
-const MAX_INPUT_LEN: usize = 1_048_576;
-
-const USAGE: &[u8] = b"usage: faust script\n";
+const USAGE: &[u8] =
+    b"usage: faust script | record | audit | json | migrate | sample SEED CLIENTS OPS\n";
 
 const TOO_LONG: &[u8] = b"refused: line 0: input\n";
 
-/// Reads a script from the source, plays it, and writes the report of its run to the sink. `Usage` comes exactly for
-/// other words than `script`, `Refused` exactly where the input is too long or a line of it is refused, `Premise`
-/// exactly where its run isn't clean, and `ReadFault` and `WriteFault` only where the count of faults rose.
+/// Does what the words say, from the bytes of the source to a text in the sink. `Usage` comes exactly for words that are
+/// no form, `Refused` exactly where the input is too long or a line of it is refused, `Premise` exactly where the run
+/// isn't clean and the command looks, and `ReadFault` and `WriteFault` only where the count of faults rose.
 pub fn run<S: Source, K: Sink>(
     alloc: Global,
     words: &[String],
@@ -33,28 +34,32 @@ pub fn run<S: Source, K: Sink>(
       writes_failed_after = K.faults sink.new;
     }) result }
 {
-    if !are_script_words(words) {
+    let Some(command) = Command::of(words) else {
         return written(sink, USAGE, Status::Usage);
-    }
-    let input = match read_whole(alloc, source, MAX_INPUT_LEN) {
+    };
+    let input = match read_input(alloc, source, command) {
         Ok(input) => input,
         Err(ReadError::TooLong) => return written(sink, TOO_LONG, Status::Refused),
         Err(ReadError::Failed) => return Status::ReadFault,
         Err(ReadError::OutOfMemory) => return Status::OutOfMemory,
     };
-    match script_output(alloc, input.as_slice()) {
+    match answer(alloc, command, input.as_slice()) {
         Ok(output) => written(sink, output.text.as_slice(), output.status),
         Err(OutOfMemory) => Status::OutOfMemory,
     }
 }
 
-/// Whether the words are the one word `script`.
-fn are_script_words(words: &[String]) -> bool
-    ensures { IsTrue result ↔ AreScriptWords (map string_bytes words.now) }
+/// The input of a command: all bytes of the source where it reads any.
+fn read_input<S: Source>(
+    alloc: Global,
+    source: &mut S,
+    command: Command,
+) -> Result<Bytes, ReadError>
+    ensures { ReadsInput (limit_of command) (S.left source.old) (S.left source.new) (S.faults source.old) (S.faults source.new) result }
 {
-    match words {
-        [word] => word.as_str() == "script",
-        _ => false,
+    match command.limit() {
+        Some(limit) => read_whole(alloc, source, limit),
+        None => Ok(Bytes::new(alloc)),
     }
 }
 

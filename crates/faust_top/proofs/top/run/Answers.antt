@@ -1,50 +1,63 @@
-use Rattle.std.proofs.Common.{◌≡◌, ℕ, List, refl, sym, ap, subst, ◌∙◌, Err}
-use Rattle.std.proofs.lemmas.Bool.{both_ways}
-use Rattle.faust_types.specs.declared.status.Status.TheVariants.{Usage, Refused}
+use Rattle.std.proofs.Common.{◌≡◌, ℕ, List, map, Err, refl, sym, ap, subst, ◌∙◌}
+use Rattle.std.specs.Prelude.{string_bytes}
 use Rattle.faust_io.specs.declared.failed.ReadError.{ReadError}
-use Rattle.faust_io.specs.Faults.{CountsError}
-use Rattle.faust_script.specs.Parsing.{parsed}
-use Rattle.faust_top.specs.declared.output.Output.{Output}
-use Rattle.faust_top.specs.Answer.{IsTextFor}
-use Rattle.faust_top.specs.Output.{IsReadRun, output_of_script}
-use Rattle.faust_top.specs.Texts.{too_long_text, usage_text}
-use Rattle.faust_top.proofs.Answering.{answered, text_due, text_read, too_long_of}
-use Rattle.faust_top.proofs.OutputLaws.{input_has}
-use Rattle.faust_top.proofs.Promising.{promised}
+use Rattle.faust_top.specs.Accepting.{accepted}
+use Rattle.faust_top.specs.Commands.{limit_of}
+use Rattle.faust_top.specs.Output.{AreRuns, EndsWriting, IsDueOfReader, ReadsInput, output_of_accepted}
+use Rattle.faust_top.proofs.Answering.{fault_answered, no_memory_answered, no_memory_for_text, text_answered, too_long_answered, usage_answered}
+use Rattle.faust_top.proofs.CommandLaws.{command_form, no_form}
 use Rattle.faust_top.proofs.top.run.Goals as goal
 
-pub returns-then-not-are_script_words : goal.returns-then-not-are_script_words
-returns-then-not-are_script_words g c =
-    answered _ _ Usage usage_text c.written.result
-    (λ are. both_ways c.are_script_words.result c.if-not-are_script_words.true (c.are_script_words.ensures.1 are), refl) refl refl c.written.ensures
+pub returns-in_default : goal.returns-in_default
+returns-in_default g c =
+    usage_answered _ _ c.written.result (no_form _ (sym c.in_default.ensures)) refl refl c.written.ensures
 
 pub returns-in-Err-TooLong : goal.returns-in-Err-TooLong
 returns-in-Err-TooLong g c =
-    let too_long = c.in-Err-TooLong.field-0-is in
-    answered _ _ Refused too_long_text c.written-in-Err-TooLong.result (
-      c.are_script_words.ensures.0 c.if-not-are_script_words.false,
-      too_long_of (g.S.Source.left c.args.source.now) (c.in-Err-TooLong.ensures.too_long (ap Err too_long)),
-    )
-    tt
-    (subst (λ (e : ReadError). CountsError e (g.S.Source.faults c.args.source.now) (g.S.Source.faults c.read_whole.new.source)) too_long c.in-Err-TooLong.ensures.count)
+    let command = c.in-Some.command in
+    too_long_answered _ _ command c.written-in-Err-TooLong.result (command_form _ command (sym c.in-Some.ensures))
+    (subst (λ (e : ReadError). ReadsInput (limit_of command) (g.S.Source.left c.args.source.now) (g.S.Source.left c.read_input.new.source)
+    (g.S.Source.faults c.args.source.now) (g.S.Source.faults c.read_input.new.source) (Err e)) c.in-Err-TooLong.field-0-is c.in-Err-TooLong.ensures)
     c.written-in-Err-TooLong.ensures
 
-pub returns-in-Ok-script_output : goal.returns-in-Ok-script_output
-returns-in-Ok-script_output g c =
+pub returns-in-Err-Failed : goal.returns-in-Err-Failed
+returns-in-Err-Failed g c =
+    let command = c.in-Some.command in
+    fault_answered _ _ command (command_form _ command (sym c.in-Some.ensures))
+    (subst (λ (e : ReadError). ReadsInput (limit_of command) (g.S.Source.left c.args.source.now) (g.S.Source.left c.read_input.new.source)
+    (g.S.Source.faults c.args.source.now) (g.S.Source.faults c.read_input.new.source) (Err e)) c.in-Err-Failed.field-0-is c.in-Err-Failed.ensures)
+    (record { held = refl; writes_kept = refl })
+
+pub returns-in-Err-OutOfMemory : goal.returns-in-Err-OutOfMemory
+returns-in-Err-OutOfMemory g c =
+    let command = c.in-Some.command in
+    no_memory_answered _ _ command (command_form _ command (sym c.in-Some.ensures))
+    (subst (λ (e : ReadError). ReadsInput (limit_of command) (g.S.Source.left c.args.source.now) (g.S.Source.left c.read_input.new.source)
+    (g.S.Source.faults c.args.source.now) (g.S.Source.faults c.read_input.new.source) (Err e)) c.in-Err-OutOfMemory.field-0-is c.in-Err-OutOfMemory.ensures)
+    (record { held = refl; writes_kept = refl })
+
+pub answer-requires : goal.answer-requires
+answer-requires g c =
+    (command_form (map (λ w. string_bytes w) c.args.words.now) c.in-Some.command (sym c.in-Some.ensures)).in_range
+
+pub returns-in-Ok-answer : goal.returns-in-Ok-answer
+returns-in-Ok-answer g c =
+    let command = c.in-Some.command in
     let input = c.in-Ok.input in
-    let output = c.in-Ok-script_output.output in
-    let whole = c.in-Ok.ensures.whole in
-    let same : output ≡ output_of_script (parsed input) =
-    c.in-Ok-script_output.ensures.output ∙ ap (λ bytes. output_of_script (parsed bytes)) c.as_slice.ensures in
-    let reads : IsReadRun input = subst (λ (bytes : List ℕ). IsReadRun bytes) c.as_slice.ensures c.in-Ok-script_output.ensures.is_run in
-    let has : IsTextFor input output.status output.text =
-    subst (λ (o : Output). IsTextFor input o.status o.text) (sym same) (input_has input c.in-Ok.ensures.within) in
-    let text = c.as_slice-in-Ok-script_output.result.now in
-    let is : IsTextFor input output.status text =
-    subst (λ (t : List ℕ). IsTextFor input output.status t) (sym c.as_slice-in-Ok-script_output.ensures) has in
-    answered _ _ output.status text c.written-in-Ok-script_output.result
-    (text_due _ _ output.status text (c.are_script_words.ensures.0 c.if-not-are_script_words.false)
-    (record { input = input; told = whole.all; text_is = is; promised = promised input reads }))
-    (text_read input _ _ output.status text is whole.at_end)
-    c.in-Ok.ensures.count
-    c.written-in-Ok-script_output.ensures
+    let output = c.in-Ok-answer.output in
+    let is : output ≡ output_of_accepted command (accepted command input) =
+    c.in-Ok-answer.ensures.output ∙ ap (λ (bytes : List ℕ). output_of_accepted command (accepted command bytes)) c.as_slice.ensures in
+    let runs : AreRuns command input = subst (λ (bytes : List ℕ). AreRuns command bytes) c.as_slice.ensures c.in-Ok-answer.ensures.are_runs in
+    let reader : IsDueOfReader command (accepted command input) =
+    subst (λ (bytes : List ℕ). IsDueOfReader command (accepted command bytes)) c.as_slice.ensures c.in-Ok-answer.ensures.of_reader in
+    let result = c.written-in-Ok-answer.result in
+    let written = subst (λ (text : List ℕ). EndsWriting output.status text (g.K.Sink.held c.args.sink.now) (g.K.Sink.held c.written-in-Ok-answer.new.sink)
+    (g.K.Sink.faults c.args.sink.now) (g.K.Sink.faults c.written-in-Ok-answer.new.sink) result)
+    c.as_slice-in-Ok-answer.ensures c.written-in-Ok-answer.ensures in
+    text_answered _ _ command input output result (command_form _ command (sym c.in-Some.ensures)) c.in-Ok.ensures runs reader is written
+
+pub returns : goal.returns
+returns g c =
+    let command = c.in-Some.command in
+    no_memory_for_text _ _ command c.in-Ok.input (command_form _ command (sym c.in-Some.ensures)) c.in-Ok.ensures
+    (record { held = refl; writes_kept = refl })

@@ -1,0 +1,12 @@
+pub mod Ranges
+pub mod ReadLaws
+pub mod Spelling
+pub mod Arrivals
+pub mod Taking
+pub mod LineSteps
+pub mod RecordLaws
+pub mod Tokens
+pub mod RoundTrip
+pub mod PrintedText
+pub mod Counting
+pub mod RefusalLaws
