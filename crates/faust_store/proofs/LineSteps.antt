@@ -277,9 +277,9 @@ ended_or-only version run tokens next (Some token) some is_run is =
     let count = length run.entries in
     elim (chosen (is_number_of count token) (Ok (stages.Ended run)) (Err causes.Order) (Ok next) is) [
       | inl due ↦ inl (
-          subst (λ (t : List ℕ). SpellsFields end_form (tt, (t, tt)) tokens) ((bytes_eq-Decides token (decimal count)).0 due.0) (end_only tokens token some),
-          ok_same (stages.Ended run) next due.1,
-        )
+        subst (λ (t : List ℕ). SpellsFields end_form (tt, (t, tt)) tokens) ((bytes_eq-Decides token (decimal count)).0 due.0) (end_only tokens token some),
+        ok_same (stages.Ended run) next due.1,
+      )
       | inr other ↦ absurd (let e = other.1 in cc)
     ]
 

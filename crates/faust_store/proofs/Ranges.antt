@@ -140,12 +140,12 @@ line_kept (heads.Delta formats n bytes) given kept range =
     (kept.0, kept.1, kept.2, record { from_one = range.1.0.0; below = omega (arith, range.1.0.1) })
 line_kept (heads.Dummy formats n bytes delta) given kept range = record {
   config_in_range = record {
-      clients_count = kept.1;
-      key_sized = kept.2.sized;
-      delta_span = kept.3;
-      dummy_span = record { from_one = range.1.0.0; below = omega (arith, range.1.0.1) };
-      wire_known = wire_kept formats kept.0;
-    };
+    clients_count = kept.1;
+    key_sized = kept.2.sized;
+    delta_span = kept.3;
+    dummy_span = record { from_one = range.1.0.0; below = omega (arith, range.1.0.1) };
+    wire_known = wire_kept formats kept.0;
+  };
   key_bytes = kept.2.bytes_each;
   version_known = version_kept formats kept.0;
 }

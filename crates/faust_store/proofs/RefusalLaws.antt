@@ -292,9 +292,9 @@ refused_entry version run tokens cause given found is =
       is_number = e.digits;
       spelled = e.spelled;
       why = elim (chosen (is_number_of (length run.entries) given.0) (takes version run given.1) (Err causes.Order) (Err cause) is) [
-          | inl due ↦ inr ((bytes_eq-Decides given.0 count).0 due.0, (cant_take run given.1 cause fits).0 (there.0 due.1))
-          | inr other ↦ inl (let e = other.1 in cc, λ same. both_ways (bytes_eq given.0 count) other.0 ((bytes_eq-Decides given.0 count).1 same))
-        ];
+        | inl due ↦ inr ((bytes_eq-Decides given.0 count).0 due.0, (cant_take run given.1 cause fits).0 (there.0 due.1))
+        | inr other ↦ inl (let e = other.1 in cc, λ same. both_ways (bytes_eq given.0 count) other.0 ((bytes_eq-Decides given.0 count).1 same))
+      ];
     }
 
 entry_refused : (version : ℕ) (run : Run) (tokens : List (List ℕ)) (cause : Cause) → IsRefusedEntry version run tokens cause
@@ -321,8 +321,14 @@ item_refused version run tokens cause (Some token) some is =
     let count = decimal (length run.entries) in
     elim (chosen (is_number_of (length run.entries) token) (Ok (stages.Ended run)) (Err causes.Order) (Err cause) is) [
       | inl due ↦ absurd (let e = due.1 in cc)
-      | inr other ↦ inl (let e = other.1 in cc, (token, end_only tokens token some,
-          λ same. both_ways (bytes_eq token count) other.0 ((bytes_eq-Decides token count).1 same)))
+      | inr other ↦ inl (
+        let e = other.1 in cc,
+        (
+          token,
+          end_only tokens token some,
+          λ same. both_ways (bytes_eq token count) other.0 ((bytes_eq-Decides token count).1 same),
+        ),
+      )
     ]
 item_refused version run tokens cause None none is =
     let entry : Result Stage Cause = entry_at version run.config.clients tokens >>= (λ given. numbered version run given.0 given.1) in
@@ -331,12 +337,12 @@ item_refused version run tokens cause None none is =
       elim (chosen (leb 20000 (length run.entries)) (Err causes.Events) entry (Err cause) is) [
         | inl full ↦ inl (let e = full.1 in cc, leb-true _ _ full.0)
         | inr room ↦ inr (
-            leb-false _ _ room.0,
-            elim (bind_err (entry_at version run.config.clients tokens) (λ given. numbered version run given.0 given.1) cause room.1) [
-              | inl there ↦ inl ((entry-fault version run.config.clients tokens cause).0 there)
-              | inr given ↦ inr (refused_entry version run tokens cause given.0 given.1 given.2)
-            ],
-          )
+          leb-false _ _ room.0,
+          elim (bind_err (entry_at version run.config.clients tokens) (λ given. numbered version run given.0 given.1) cause room.1) [
+            | inl there ↦ inl ((entry-fault version run.config.clients tokens cause).0 there)
+            | inr given ↦ inr (refused_entry version run tokens cause given.0 given.1 given.2)
+          ],
+        )
       ],
     )
 

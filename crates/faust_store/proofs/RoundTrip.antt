@@ -73,8 +73,13 @@ input_printed version config i st (inputs.Write value) most client may handed =
     let fits = small config.clients i most client in
     record {
       spelled = (refl, (number_spelled 1 config.clients i client.from_one client.to_n fits, (refl, (value_spelled value may.value_in_range, tt))));
-      joinable = (middle_word (word_text words.Begin) refl refl (lit≤ tt), (middle_number i fits,
-          (middle_word (codes "write") refl refl (lit≤ tt), last_value value may.value_in_range)));
+      joinable = (
+        middle_word (word_text words.Begin) refl refl (lit≤ tt),
+        (
+          middle_number i fits,
+          (middle_word (codes "write") refl refl (lit≤ tt), last_value value may.value_in_range),
+        ),
+      );
       few = lit≤ tt;
     }
 input_printed version config i st (inputs.Read register) most client may handed =
@@ -82,10 +87,20 @@ input_printed version config i st (inputs.Read register) most client may handed 
     let range = may.register_in_range in
     let register_fits = small config.clients register most range in
     record {
-      spelled = (refl, (number_spelled 1 config.clients i client.from_one client.to_n fits,
-          (refl, (number_spelled 1 config.clients register range.from_one range.to_n register_fits, tt))));
-      joinable = (middle_word (word_text words.Begin) refl refl (lit≤ tt), (middle_number i fits,
-          (middle_word (codes "read") refl refl (lit≤ tt), as_last (decimal register) (middle_number register register_fits))));
+      spelled = (
+        refl,
+        (
+          number_spelled 1 config.clients i client.from_one client.to_n fits,
+          (refl, (number_spelled 1 config.clients register range.from_one range.to_n register_fits, tt)),
+        ),
+      );
+      joinable = (
+        middle_word (word_text words.Begin) refl refl (lit≤ tt),
+        (
+          middle_number i fits,
+          (middle_word (codes "read") refl refl (lit≤ tt), as_last (decimal register) (middle_number register register_fits)),
+        ),
+      );
       few = lit≤ tt;
     }
 input_printed version config i st (inputs.Reply bytes) most client may handed =
@@ -106,10 +121,20 @@ input_printed version config i st (inputs.Tick moment) most client may handed =
     let fits = small config.clients i most client in
     let moment_fits : moment < 2 ^ 64 = omega (arith, may) in
     record {
-      spelled = (refl, (number_spelled 1 config.clients i client.from_one client.to_n fits,
-          (number_spelled 0 (2 ^ 40 - 1) moment (omega arith) (omega (arith, may)) moment_fits, tt)));
-      joinable = (middle_word (word_text words.Tick) refl refl (lit≤ tt), (middle_number i fits,
-          as_last (decimal moment) (middle_number moment moment_fits)));
+      spelled = (
+        refl,
+        (
+          number_spelled 1 config.clients i client.from_one client.to_n fits,
+          (number_spelled 0 (2 ^ 40 - 1) moment (omega arith) (omega (arith, may)) moment_fits, tt),
+        ),
+      );
+      joinable = (
+        middle_word (word_text words.Tick) refl refl (lit≤ tt),
+        (
+          middle_number i fits,
+          as_last (decimal moment) (middle_number moment moment_fits),
+        ),
+      );
       few = lit≤ tt;
     }
 input_printed version config i st (inputs.Arrive message) most client may handed =

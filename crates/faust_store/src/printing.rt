@@ -38,12 +38,7 @@ fn put_entry(text: &mut Bytes, version: u8, entry: &Entry) -> Result<(), OutOfMe
     text.push(b'\n')
 }
 
-fn put_input(
-    text: &mut Bytes,
-    version: u8,
-    client: u8,
-    input: &Input,
-) -> Result<(), OutOfMemory>
+fn put_input(text: &mut Bytes, version: u8, client: u8, input: &Input) -> Result<(), OutOfMemory>
     ensures { OnOk result (text.new ≡ text.old ++ joined (input_tokens version client input.now)) }
 {
     match input {

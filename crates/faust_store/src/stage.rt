@@ -107,7 +107,12 @@ fn next_entry(alloc: Global, version: u8, run: RunRecord, text: &[u8]) -> Result
     numbered_entry(version, run, number, line)
 }
 
-fn numbered_entry(version: u8, run: RunRecord, number: &[u8], line: EntryLine) -> Result<Stage, LineError>
+fn numbered_entry(
+    version: u8,
+    run: RunRecord,
+    number: &[u8],
+    line: EntryLine,
+) -> Result<Stage, LineError>
     requires { IsLineFor run.config.clients line }
     ensures { Gives (λ stage. stage) result (numbered version run number.now line) }
 {

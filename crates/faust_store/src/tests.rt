@@ -74,12 +74,21 @@ fn the_first_fault_is_named(rt: HostRuntime) -> Result<(), Fail> {
         let refused = read_record(rt.alloc(), text.as_slice()).err();
         assert_eq!(rt;
             refused,
-            Some(StoreError::BadRecord { line: *number, cause: *cause }),
+            Some(StoreError::BadRecord {
+                line: *number,
+                cause: *cause
+            }),
             "{line:?}"
         );
     }
     let text = joined(&rt, &[WHOLE[0], WHOLE[1], WHOLE[2], b"1 arrive 1 0x01\n"])?;
     let refused = read_record(rt.alloc(), text.as_slice()).err();
-    assert_eq!(rt; refused, Some(StoreError::BadRecord { line: 8, cause: Cause::Frame }));
+    assert_eq!(rt;
+        refused,
+        Some(StoreError::BadRecord {
+            line: 8,
+            cause: Cause::Frame
+        })
+    );
     Ok(())
 }
