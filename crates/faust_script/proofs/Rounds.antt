@@ -1,15 +1,15 @@
 -- The generated script is in range, and how many events it has.
-use Rattle.std.proofs.Common.{◌≡◌, ◌≢◌, ℕ, ◌+◌, ◌-◌, ◌*◌, ◌^◌, ◌<◌, ◌≤◌, zero, suc, Bool, true, false, cond, List, [], ◌∷◌, ◌++◌, length, get_or, length-append, append_assoc, append-nil, refl, sym, ap, ◌∙◌, subst, inl, inr, lit≤, lit<, arith}
+use Rattle.std.proofs.Common.{◌≡◌, ◌≢◌, ℕ, ◌+◌, ◌-◌, ◌*◌, ◌^◌, ◌<◌, ◌≤◌, zero, suc, Bool, true, false, cond, List, [], ◌∷◌, ◌++◌, length, length-append, append_assoc, append-nil, refl, sym, ap, ◌∙◌, inl, inr, lit≤, lit<, arith}
 use Rattle.std.proofs.lemmas.Bool.{cases_eq, cond_both, cond-true, cond-false, eq-eqb, ne_eqb}
 use Rattle.std.proofs.Math.Nat.{mul-le-mul, suc-mul, zero-mul}
 use Rattle.std.specs.Prelude.{nat_eq}
 use Rattle.std.specs.List.{AllByRecursion}
-use Rattle.faust_types.specs.Bytes.{AreBytes, IsKey}
+use Rattle.faust_types.specs.Bytes.{IsKey}
 use Rattle.faust_types.specs.Clients.{IsClient, IsClientCount}
-use Rattle.faust_types.specs.Ranges.{IsConfig, IsSpan, IsWire}
+use Rattle.faust_types.specs.declared.config.Config.{Config}
+use Rattle.faust_script.specs.declared.script.Script.{Script}
 use Rattle.faust_script.specs.declared.event.Event.{Event}
 use Rattle.faust_script.specs.declared.event.Event.TheVariants as event
-use Rattle.faust_script.specs.declared.progress.Progress.{Progress}
 use Rattle.faust_script.specs.Generated.{IsSampleSize, after_steps, beginning, drawn_events, each_up_to, from_each, generated, last_operation, round_of, sample_config, sample_key, step_count, ticks, to_another, to_each}
 use Rattle.faust_script.specs.InRange.{IsEventFor, IsPlace, IsScript}
 use Rattle.faust_script.proofs.Steps.{IsUnderway, all_append, underway}
@@ -155,7 +155,24 @@ generated_in_range seed n ops size =
         wire_known = record { from_one = lit≤ tt; to_two = lit≤ tt };
       };
       events_in_range = all_append (IsEventFor n) drawn (last_operation n ++ (round_of n 1 ++ round_of n 2)) is.events_in_range
-      (all_append (IsEventFor n) (last_operation n) (round_of n 1 ++ round_of n 2) (last_in_range n size.clients_count)
-      (all_append (IsEventFor n) (round_of n 1) (round_of n 2) (round_in_range n 1 (lit≤ tt) (lit≤ tt)) (round_in_range n 2 (lit≤ tt) (lit≤ tt))));
+          (all_append (IsEventFor n) (last_operation n) (round_of n 1 ++ round_of n 2) (last_in_range n size.clients_count)
+          (all_append (IsEventFor n) (round_of n 1) (round_of n 2) (round_in_range n 1 (lit≤ tt) (lit≤ tt)) (round_in_range n 2 (lit≤ tt) (lit≤ tt))));
       few_events = omega (arith, generated_counted seed n ops size, few, size.to_3000, size.clients_count.at_most_32);
     }
+
+-- A script of these parts, one behind the other.
+abbrev pub script_of : Config → List Event → Script
+script_of config events = record { format = 1; config = config; events = events }
+
+pub generated_is : (seed n ops : ℕ) (config : Config) (drawn ended one two : List Event) → drawn ≡ drawn_events seed n ops
+    → ended ≡ drawn ++ last_operation n → one ≡ ended ++ round_of n 1 → two ≡ one ++ round_of n 2 → config ≡ sample_config n
+    → script_of config two ≡ generated seed n ops
+unfolding generated
+generated_is seed n ops config drawn ended one two first second third fourth shared =
+    let front : List Event = drawn_events seed n ops in
+    let ended_is : ended ≡ front ++ last_operation n = second ∙ ap (λ (l : List Event). l ++ last_operation n) first in
+    let one_is : one ≡ (front ++ last_operation n) ++ round_of n 1 = third ∙ ap (λ (l : List Event). l ++ round_of n 1) ended_is in
+    let two_is : two ≡ ((front ++ last_operation n) ++ round_of n 1) ++ round_of n 2 = fourth ∙ ap (λ (l : List Event). l ++ round_of n 2) one_is in
+    let whole : two ≡ front ++ (last_operation n ++ (round_of n 1 ++ round_of n 2)) =
+    two_is ∙ (append_assoc (front ++ last_operation n) (round_of n 1) (round_of n 2) ∙ append_assoc front (last_operation n) (round_of n 1 ++ round_of n 2)) in
+    ap (λ (c : Config). script_of c two) shared ∙ ap (λ (l : List Event). script_of (sample_config n) l) whole

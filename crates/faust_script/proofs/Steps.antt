@@ -1,10 +1,10 @@
 -- Some client can act in each step of the generated script, and none after the last.
 use Rattle.std.proofs.Common.{◌≡◌, ◌≢◌, ℕ, ◌+◌, ◌-◌, ◌*◌, ◌%◌, ◌/◌, ◌^◌, ◌<◌, ◌≤◌, zero, suc, Bool, true, false, cond, List, [], ◌∷◌, ◌++◌, length, get_or, set, drop, replicate, length-set, length-append, refl, sym, ap, ◌∙◌, subst, inl, inr, lit<, arith}
-use Rattle.std.proofs.lemmas.Bool.{cases_Bool, cases_lt, cond_both, cond-true, cond-false, ltb-true, lt-ltb, le-ltb, ltb-false, false≢true}
+use Rattle.std.proofs.lemmas.Bool.{cases_Bool, cases_lt, cond_both, cond-true, cond-false, ltb-true, le-ltb, ltb-false, false≢true}
 use Rattle.std.proofs.lemmas.List.{get_or_past, length-replicate}
 use Rattle.std.proofs.Math.Seq.{drop-cons}
 use Rattle.std.proofs.Math.Nat.{mod-add-mod}
-use Rattle.std.specs.Prelude.{nat_lt, nat_eq}
+use Rattle.std.specs.Prelude.{nat_eq}
 use Rattle.std.specs.List.{AllByRecursion}
 use Rattle.std.specs.Fmt.{decimal}
 use Rattle.std.proofs.lemmas.Fmt.{length-decimal-le}
@@ -16,7 +16,7 @@ use Rattle.faust_script.specs.declared.progress.Actor.{Actor}
 use Rattle.faust_script.specs.declared.progress.Phase.{Phase}
 use Rattle.faust_script.specs.declared.progress.Phase.TheVariants as phases
 use Rattle.faust_script.specs.declared.progress.Progress.{Progress}
-use Rattle.faust_script.specs.Generated.{IsSampleSize, able, able_from, acted, acting_client, acts, after_draw, after_steps, answer, beginning, begins_drawn, begins_read, begins_with, can_act, drawn, goes_on, idle, may_begin_one, step_count, value_of, with_event_of}
+use Rattle.faust_script.specs.Generated.{IsSampleSize, able, able_from, acted, after_draw, after_steps, answer, beginning, begins_read, begins_with, can_act, drawn, goes_on, idle, may_begin_one, step_count, value_of}
 use Rattle.faust_script.specs.InRange.{IsEventFor}
 use Rattle.faust_text.proofs.NumberLaws.{digits_at, is_number-decimal}
 use Rattle.faust_script.specs.Stepping.{CanAct, CanStep, IsCounted}
@@ -287,7 +287,7 @@ pub some_able : (n ops steps : ℕ) (progress : Progress) → IsSampleSize n ops
 some_able n ops steps progress size underway more =
     elim (cases_Bool (may_begin_one ops progress)) [
       | inl may ↦ subst (λ (b : Bool). 0 < length (able_from b 1 progress.actors)) (sym may)
-      (some_where_open 1 progress.actors (omega (arith, underway.each_counted, size.clients_count.at_least_two)))
+          (some_where_open 1 progress.actors (omega (arith, underway.each_counted, size.clients_count.at_least_two)))
       | inr may_not ↦
           let all_begun : ops - 1 ≤ progress.begun = ltb-false progress.begun (ops - 1) may_not in
           some_from_owed (may_begin_one ops progress) 1 progress.actors (omega (arith, underway.left))
@@ -348,6 +348,24 @@ can_step seed n ops steps size more =
     let progress : Progress = after_steps n ops (beginning seed n) steps in
     let is : IsUnderway n ops steps progress = underway seed n ops steps size (omega arith) in
     record { counted = counted n ops steps progress size is; from_one = size.from_one; some_able = some_able n ops steps progress size is more }
+
+-- A client that can act may act after the draw.
+pub step_can_act : (n ops client : ℕ) (actors : List Actor) (before after : Progress) → CanStep n ops before → after ≡ after_draw before
+    → actors ≡ after.actors → IsClient (length actors) client → CanAct n client after
+step_can_act n ops client actors before after can drawn_is same is =
+    let counted : IsCounted n before = can.counted in
+    let kept : IsCounted n (after_draw before) = record {
+      clients_count = counted.clients_count;
+      each_counted = counted.each_counted;
+      few_begun = counted.few_begun;
+      numbers_low = counted.numbers_low;
+    } in
+    let actors_of : Progress → List Actor = λ progress. progress.actors in
+    let sized : length actors ≡ n = ap (λ (l : List Actor). length l) (same ∙ ap actors_of drawn_is) ∙ counted.each_counted in
+    record {
+      is_client = record { from_one = is.from_one; to_n = omega (arith, is.to_n, sized) };
+      counted = subst (λ (progress : Progress). IsCounted n progress) (sym drawn_is) kept;
+    }
 
 -- After the last step none can.
 pub none_able : (seed n ops : ℕ) → IsSampleSize n ops → able ops (after_steps n ops (beginning seed n) (step_count ops)) ≡ []

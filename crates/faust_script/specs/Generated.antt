@@ -1,6 +1,6 @@
 -- The generated script: operations of all clients in an order that is drawn from a seed, then one last operation, then
 -- two rounds in which each client asks each other for its version and is answered. `generate` promises it.
-use Rattle.std.specs.Prelude.{ℕ, zero, suc, ◌+◌, ◌-◌, ◌*◌, ◌/◌, ◌%◌, ◌^◌, ◌≤◌, Bool, true, false, cond, nat_eq, nat_lt, List, [], ◌∷◌, ◌++◌, length, replicate, codes, slice_index, slice_index_or, slice_set}
+use Rattle.std.specs.Prelude.{ℕ, zero, suc, ◌+◌, ◌-◌, ◌*◌, ◌/◌, ◌%◌, ◌^◌, ◌≤◌, Bool, true, cond, nat_eq, nat_lt, List, [], ◌∷◌, ◌++◌, length, replicate, codes, slice_index, slice_index_or, slice_set}
 use Rattle.std.specs.Fmt.{decimal}
 use Rattle.faust_types.specs.Clients.{IsClientCount}
 use Rattle.faust_types.specs.declared.config.Config.{Config}

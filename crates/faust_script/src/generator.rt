@@ -135,5 +135,9 @@ fn put_peer(events: &mut Events, sender: u8, receiver: u8, k: usize) -> Result<(
     if sender == receiver {
         return Ok(());
     }
-    events.push(Event::Peer { sender, receiver, k })
+    events.push(Event::Peer {
+        sender,
+        receiver,
+        k,
+    })
 }

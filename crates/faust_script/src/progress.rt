@@ -11,7 +11,9 @@ use std::alloc::Global;
 
 /// A draw makes the next state by this product and sum, modulo 2^64.
 const FACTOR: u64 = 6_364_136_223_846_793_005;
+
 const ADDEND: u64 = 1_442_695_040_888_963_407;
+
 const SHIFT: u32 = 33;
 
 /// How far a client is with its operation.
@@ -179,6 +181,7 @@ fn able_at(actors: &[Actor], may_begin: bool, place: u64) -> u8
     requires few { length actors.now ≤ 32 }
     requires within { place < length (able_from may_begin 1 actors.now) }
     ensures value { result ≡ slice_index (able_from may_begin 1 actors.now) place }
+    ensures client { IsClient (length actors.now) result }
 {
     let mut left = place;
     let mut client = 0;

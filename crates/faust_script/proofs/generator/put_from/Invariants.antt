@@ -1,4 +1,4 @@
-use Rattle.std.proofs.Common.{◌≡◌, ◌++◌, ◌∷◌, []}
+use Rattle.std.proofs.Common.{◌≡◌, ◌++◌}
 use Rattle.faust_script.specs.Generated.{each_up_to, to_another}
 use Rattle.faust_script.proofs.generator.put_from.Given as goal
 

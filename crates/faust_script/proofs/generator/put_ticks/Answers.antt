@@ -1,6 +1,5 @@
 use Rattle.std.proofs.Common.{◌∷◌, [], ◌∙◌}
 use Rattle.faust_script.specs.declared.event.Event.TheVariants as event
-use Rattle.faust_script.specs.Generated.{each_up_to}
 use Rattle.faust_script.proofs.Rounds.{each_first, each_more_behind}
 use Rattle.faust_script.proofs.generator.put_ticks.Goals as goal
 

@@ -1,5 +1,5 @@
-use Rattle.std.proofs.Common.{◌∷◌, [], ◌∙◌}
-use Rattle.faust_script.specs.Generated.{each_up_to, to_another}
+use Rattle.std.proofs.Common.{◌∙◌}
+use Rattle.faust_script.specs.Generated.{to_another}
 use Rattle.faust_script.proofs.Rounds.{each_first, each_more_behind}
 use Rattle.faust_script.proofs.generator.put_to.Goals as goal
 

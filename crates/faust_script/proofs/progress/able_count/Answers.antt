@@ -1,5 +1,4 @@
-use Rattle.std.proofs.Common.{◌≡◌, ◌+◌, ℕ, List, length, drop, get_or, sym, ap, ◌∙◌, arith}
-use Rattle.faust_script.specs.Generated.{able_from}
+use Rattle.std.proofs.Common.{ℕ, List, length, sym, ap, ◌∙◌, arith}
 use Rattle.faust_script.proofs.Steps.{able_taken, able_passed}
 use Rattle.faust_script.proofs.progress.able_count.Goals as goal
 use Rattle.faust_script.proofs.progress.able_count.Goals.{then-can_act, else-can_act}
