@@ -1,10 +1,10 @@
 -- The entries of a run one by one: each is in range, and a message that arrives is one that was sent, so it is bytes of
 -- a message's length.
-use Rattle.std.proofs.Common.{◌≡◌, ◌+◌, ◌≤◌, ℕ, suc, zero, Bool, Option, Some, None, List, [], ◌∷◌, ◌++◌, length, option_to_list, refl, sym, ap, ◌∙◌, subst, arith, append_assoc}
+use Rattle.std.proofs.Common.{◌≡◌, ◌+◌, ◌≤◌, ℕ, suc, zero, Option, Some, None, List, [], ◌∷◌, ◌++◌, length, option_to_list, refl, sym, ◌∙◌, subst, arith, append_assoc}
 use Rattle.std.specs.Prelude.{IfSome, slice_get}
 use Rattle.std.specs.List.{AllByRecursion}
 use Rattle.std.proofs.lemmas.List.{append-nil}
-use Rattle.faust_types.specs.Clients.{IsClient, IsClientCount}
+use Rattle.faust_types.specs.Clients.{IsClient}
 use Rattle.faust_types.specs.Ranges.{IsConfig}
 use Rattle.faust_types.specs.declared.config.Config.{Config}
 use Rattle.faust_types.specs.declared.outcome.Outcome.{Outcome}
@@ -13,8 +13,8 @@ use Rattle.faust_wire.specs.Grammar.{spelling}
 use Rattle.faust_wire.proofs.Bytes.{AreBytes-spelling}
 use Rattle.faust_wire.proofs.Lengths.{spelling_at_most}
 use Rattle.faust_agent.specs.State.{first_client}
-use Rattle.faust_agent.specs.Deeds.{Event, Sent, commits, submits}
-use Rattle.faust_agent.specs.Table.{after, deed_of, sent_of}
+use Rattle.faust_agent.specs.Deeds.{Sent, commits, submits}
+use Rattle.faust_agent.specs.Table.{deed_of, sent_of}
 use Rattle.faust_agent.specs.InRange.{IsClientOf, IsDeedFor, IsSentFor}
 use Rattle.faust_agent.specs.Outcomes.{outcome_of, sent_bytes, spelled_sent}
 use Rattle.faust_agent.specs.Tells.{IsEventFor}

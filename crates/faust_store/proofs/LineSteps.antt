@@ -7,7 +7,6 @@ use Rattle.std.specs.Str.{bytes_eq}
 use Rattle.std.proofs.lemmas.List.{append-nil}
 use Rattle.std.proofs.lemmas.Bool.{and_from, and_parts, both_ways, cond-false, cond-true, le-ltb, ltb-false, leb-false, lt-leb}
 use Rattle.std.proofs.lemmas.Slice.Eq.{bytes_eq-Decides}
-use Rattle.faust_types.specs.declared.config.Config.{Config}
 use Rattle.faust_text.specs.declared.cause.Cause.{Cause}
 use Rattle.faust_text.specs.declared.cause.Cause.TheVariants as causes
 use Rattle.faust_text.specs.Fields.{◌>>=◌}
@@ -30,7 +29,7 @@ use Rattle.faust_store.specs.Records.{AreEntryLines, IsEndLine, SpellsEntry, end
 use Rattle.faust_store.proofs.Arrivals.{entry_behind}
 use Rattle.faust_store.proofs.Ranges.{entry_in_range}
 use Rattle.faust_store.proofs.Spelling.{entry_found, entry_only}
-use Rattle.faust_store.proofs.Taking.{IsTaken, said_as, same_bytes, spells_said, taken_by, taken_only}
+use Rattle.faust_store.proofs.Taking.{said_as, same_bytes, spells_said, taken_by, taken_only}
 
 -- A choice by a test, taken apart.
 chosen : {A : Type 0} (b : Bool) (x y z : A) → cond b x y ≡ z → ((b ≡ true) × (x ≡ z)) ⊎ ((b ≡ false) × (y ≡ z))

@@ -1,5 +1,5 @@
 -- Printing a record entry by entry.
-use Rattle.std.proofs.Common.{◌≡◌, ℕ, ◌+◌, ◌<◌, ◌≤◌, zero, suc, List, [], ◌∷◌, ◌++◌, length, drop, Option, Some, None, refl, sym, ap, ◌∙◌, subst, arith, append_assoc}
+use Rattle.std.proofs.Common.{◌≡◌, ℕ, ◌+◌, ◌≤◌, zero, suc, List, [], ◌∷◌, ◌++◌, length, drop, Some, None, refl, sym, ap, ◌∙◌, arith, append_assoc}
 use Rattle.std.specs.Prelude.{slice_get}
 use Rattle.std.specs.Fmt.{decimal}
 use Rattle.std.proofs.lemmas.List.{append-nil}
@@ -11,7 +11,7 @@ use Rattle.faust_record.specs.Runs.{Run}
 use Rattle.faust_record.specs.declared.entry.Entry.{Entry}
 use Rattle.faust_record.specs.declared.entry.Input.{Input}
 use Rattle.faust_record.specs.declared.entry.Input.TheVariants as inputs
-use Rattle.faust_store.specs.Texts.{end_line, entry_line, entry_lines, input_tokens, record_lines, record_text}
+use Rattle.faust_store.specs.Texts.{end_line, entry_line, entry_lines, input_tokens, record_text}
 
 -- The number of an entry stands before its other tokens.
 input_behind : (token : List ℕ) (version i : ℕ) (input : Input)

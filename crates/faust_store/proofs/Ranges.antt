@@ -1,9 +1,9 @@
 -- What lines say is in range: of an entry for the run that takes it, of a head for the run that begins.
-use Rattle.std.proofs.Common.{◌≡◌, ℕ, ◌^◌, ◌-◌, ◌≤◌, zero, suc, Bool, true, false, List, [], ◌∷◌, Option, Some, None, Result, Ok, Err, refl, sym, ap, ◌∙◌, subst, ◌⊎◌, inl, inr, arith}
-use Rattle.std.specs.Prelude.{◌==◌, cond}
+use Rattle.std.proofs.Common.{◌≡◌, ℕ, ◌≤◌, zero, suc, List, [], ◌∷◌, Option, Some, None, Result, Ok, refl, sym, ◌∙◌, subst, inl, inr, arith}
+use Rattle.std.specs.Prelude.{◌==◌}
 use Rattle.std.proofs.lemmas.Bool.{cases_Bool, cond-true, cond-false}
-use Rattle.faust_types.specs.Clients.{IsClient, IsClientCount}
-use Rattle.faust_types.specs.Ranges.{IsConfig, IsMoment, IsSpan, IsWire}
+use Rattle.faust_types.specs.Clients.{IsClient}
+use Rattle.faust_types.specs.Ranges.{IsConfig, IsWire}
 use Rattle.faust_types.specs.Bytes.{AreBytes}
 use Rattle.faust_types.specs.declared.config.Config.{Config}
 use Rattle.faust_types.specs.declared.operation.Kind.{Kind}
@@ -15,8 +15,8 @@ use Rattle.faust_text.specs.declared.head.Head.TheVariants as heads
 use Rattle.faust_text.specs.declared.head.HeadStep.{HeadStep}
 use Rattle.faust_text.specs.declared.head.HeadStep.TheVariants.{Next, Whole}
 use Rattle.faust_text.specs.Fields.{Field, Given, AllGiven, kind, any_number, field_at, fields_at, next_field, ◌>>=◌}
-use Rattle.faust_text.specs.Heads.{after_title, config_of, due_form, head_at}
-use Rattle.faust_text.specs.Spelled.{AreInRange, IsInRange, SpellsFields}
+use Rattle.faust_text.specs.Heads.{after_title, due_form, head_at}
+use Rattle.faust_text.specs.Spelled.{AreInRange, IsInRange}
 use Rattle.faust_text.proofs.FieldLaws.{bind_ok, field_spells, fields_in_range, fields_spell, ok_same}
 use Rattle.faust_text.proofs.HeadLaws.{head_step-only, with_line}
 use Rattle.faust_record.specs.declared.run_record.PushInput.TheVariants as inputs
@@ -25,7 +25,7 @@ use Rattle.faust_store.specs.declared.entry_line.EntryLine.TheVariants as lines
 use Rattle.faust_store.specs.declared.word.EntryWord.{EntryWord}
 use Rattle.faust_store.specs.declared.word.EntryWord.TheVariants as words
 use Rattle.faust_store.specs.Forms.{arrival_by, begin_form, begun_by, bytes_form, client, client_form, entry_at, line_at, line_by, line_named, tick_form}
-use Rattle.faust_store.specs.InRange.{AreFormats, IsHead, IsHeadKey, IsLineFor}
+use Rattle.faust_store.specs.InRange.{AreFormats, IsHead, IsLineFor}
 use Rattle.faust_store.specs.Reading.{record_form}
 use Rattle.faust_store.specs.Texts.{IsTextVersion}
 use Rattle.faust_store.specs.Words.{entry_word}

@@ -20,7 +20,7 @@ use Rattle.faust_store.specs.declared.stage.Stage.TheVariants as stages
 use Rattle.faust_store.specs.InRange.{IsHead}
 use Rattle.faust_store.specs.Reading.{after_head, finished, lines_from, read, record_form, stage_at, start, text_at}
 use Rattle.faust_store.specs.Records.{IsLineText, IsRecord, IsRecordText}
-use Rattle.faust_store.proofs.LineSteps.{FitsLine, Rest, after_line, ended_line, ended_lines-append, entries_found, entries_only, step_found, whole_line-only}
+use Rattle.faust_store.proofs.LineSteps.{FitsLine, after_line, ended_line, ended_lines-append, entries_found, entries_only, step_found, whole_line-only}
 use Rattle.faust_store.proofs.Ranges.{IsStep, IsWhole, head_kept}
 
 -- The lines of a head, and the lines of entries behind it.

@@ -1,5 +1,5 @@
 -- Refused lines and their causes.
-use Rattle.std.proofs.Common.{◌≡◌, ◌≢◌, ℕ, ◌+◌, ◌<◌, ◌≤◌, suc, Bool, true, false, cond, leb, ltb, List, [], ◌∷◌, ◌++◌, length, take, drop, Option, Some, None, Result, Ok, Err, refl, sym, ap, ◌∙◌, subst, ◌↔◌, ◌⊎◌, inl, inr, arith}
+use Rattle.std.proofs.Common.{◌≡◌, ◌≢◌, ℕ, ◌+◌, ◌≤◌, suc, Bool, true, false, cond, leb, ltb, List, [], ◌∷◌, ◌++◌, length, take, drop, Option, Some, None, Result, Ok, Err, refl, sym, ap, ◌∙◌, ◌↔◌, ◌⊎◌, inl, inr, arith}
 use Rattle.std.specs.Prelude.{◌==◌, nat_le}
 use Rattle.std.specs.Fmt.{decimal}
 use Rattle.std.specs.Str.{bytes_eq}
@@ -21,12 +21,11 @@ use Rattle.faust_text.proofs.FieldLaws.{bind_ok, bind_err, field_faults, field_s
 use Rattle.faust_text.proofs.HeadLaws.{head_faults}
 use Rattle.faust_agent.specs.State.{is_idle}
 use Rattle.faust_record.specs.Entries.{entry_at as entry_of}
-use Rattle.faust_record.specs.Refusals.{acted, arrived, arrived_at, begin_refused, begin_refused_by, is_register, push_of, recorded, recorded_unless, refusal_at}
+use Rattle.faust_record.specs.Refusals.{acted, arrived, arrived_at, begin_refused, begin_refused_by, is_register, push_of, recorded_unless}
 use Rattle.faust_record.specs.Runs.{Run, next_message}
 use Rattle.faust_record.specs.declared.entry.Entry.{Entry}
 use Rattle.faust_record.specs.declared.entry.Input.TheVariants as comes
 use Rattle.faust_record.specs.declared.errors.Refusal.TheVariants as refusals
-use Rattle.faust_record.specs.declared.run_record.PushInput.{PushInput}
 use Rattle.faust_record.specs.declared.run_record.PushInput.TheVariants as inputs
 use Rattle.faust_store.specs.declared.entry_line.EntryLine.{EntryLine}
 use Rattle.faust_store.specs.declared.entry_line.EntryLine.TheVariants as said
@@ -36,10 +35,10 @@ use Rattle.faust_store.specs.declared.stage.Stage.{Stage}
 use Rattle.faust_store.specs.declared.stage.Stage.TheVariants as stages
 use Rattle.faust_store.specs.declared.word.EntryWord.{EntryWord}
 use Rattle.faust_store.specs.declared.word.EntryWord.TheVariants as words
-use Rattle.faust_store.specs.Forms.{arrival_by, begin_form, begun_by, bytes_form, client, client_form, end_number, entry_at, line_at, line_by, line_named, tick_form}
+use Rattle.faust_store.specs.Forms.{begin_form, begun_by, bytes_form, client, client_form, end_number, entry_at, line_at, line_by, line_named, tick_form}
 use Rattle.faust_store.specs.InRange.{IsLineFor}
 use Rattle.faust_store.specs.Reading.{Reads, Refusal, after_head, and_then_lines, arriving_as, ended_or, entry_taken, finished, framed, is_number_of, lines_from, numbered, pushed, read, record_form, stage_at, start, taken, text_at}
-use Rattle.faust_store.specs.Refusals.{CantArrive, CantBegin, CantTake, IsAnswer, IsBeginFault, IsEntryFault, IsFaultThen, IsItemFault, IsKindFault, IsLineFault, IsNamedFault, IsNotEnded, IsRefused, IsRefusedEntry, IsRefusedThere, IsTextFault, IsWordFault, arrive_form, client_in, reached}
+use Rattle.faust_store.specs.Refusals.{CantArrive, CantBegin, CantTake, IsAnswer, IsBeginFault, IsEntryFault, IsFaultThen, IsItemFault, IsKindFault, IsLineFault, IsNamedFault, IsNotEnded, IsRefused, IsRefusedEntry, IsRefusedThere, IsTextFault, IsWordFault, client_in, reached}
 use Rattle.faust_store.specs.Words.{entry_word}
 use Rattle.faust_store.proofs.LineSteps.{end_found, end_only, none_or_some}
 use Rattle.faust_store.proofs.Ranges.{entry_in_range}

@@ -1,5 +1,5 @@
 -- What is printed of a run is its record, and so is read as this run again.
-use Rattle.std.proofs.Common.{◌≡◌, ℕ, ◌^◌, ◌+◌, ◌-◌, ◌*◌, ◌<◌, ◌≤◌, suc, Bool, true, false, cond, List, [], ◌∷◌, ◌++◌, length, Some, Ok, refl, sym, ap, ◌∙◌, subst, ◌⊎◌, inl, inr, arith, lit≤, append_assoc, length-append}
+use Rattle.std.proofs.Common.{◌≡◌, ℕ, ◌^◌, ◌+◌, ◌-◌, ◌<◌, ◌≤◌, suc, Bool, true, false, cond, List, [], ◌∷◌, ◌++◌, length, Ok, refl, sym, subst, ◌⊎◌, inl, inr, arith, lit≤, append_assoc, length-append}
 use Rattle.std.specs.Prelude.{codes, ◌==◌, IfSome}
 use Rattle.std.specs.Fmt.{decimal}
 use Rattle.std.specs.List.{AllByRecursion}
@@ -10,9 +10,8 @@ use Rattle.faust_types.specs.Bytes.{AreBytes}
 use Rattle.faust_types.specs.Clients.{IsClient}
 use Rattle.faust_types.specs.Ranges.{IsConfig}
 use Rattle.faust_types.specs.declared.config.Config.{Config}
-use Rattle.faust_types.specs.declared.operation.Kind.TheVariants as kinds
 use Rattle.faust_text.specs.declared.head.Title.TheVariants as titles
-use Rattle.faust_text.specs.Heads.{CanBeHead, head_lines, head_text, named_number, title_line, wire_lines}
+use Rattle.faust_text.specs.Heads.{CanBeHead, head_lines, head_text, named_number, wire_lines}
 use Rattle.faust_text.specs.Lines.{IsWithout}
 use Rattle.faust_text.specs.Spelled.{SpellsFields}
 use Rattle.faust_text.specs.Tokens.{joined, tokens_of}
@@ -29,11 +28,11 @@ use Rattle.faust_record.specs.declared.entry.Entry.{Entry}
 use Rattle.faust_store.specs.declared.word.EntryWord.TheVariants as words
 use Rattle.faust_store.specs.Reading.{read, record_form}
 use Rattle.faust_store.specs.Records.{AreEntryLines, IsEndLine, IsLineText, IsRecordText, SpellsArrival, SpellsEntry, SpellsInput, end_form}
-use Rattle.faust_store.specs.Texts.{IsTextVersion, end_line, entry_line, entry_lines, input_tokens, record_lines, record_text}
+use Rattle.faust_store.specs.Texts.{IsTextVersion, end_line, entry_line, entry_lines, input_tokens, record_text}
 use Rattle.faust_store.specs.Words.{word_text}
 use Rattle.faust_store.proofs.Arrivals.{IsEntryBehind, due-handed_in, entry_behind}
 use Rattle.faust_store.proofs.RecordLaws.{record_found}
-use Rattle.faust_store.proofs.Tokens.{AreTokens, IsLast, IsMiddle, as_last, joined_line, joined_short, last_bytes, last_value, middle_number, middle_word, number_spelled, tokens_again, value_spelled}
+use Rattle.faust_store.proofs.Tokens.{AreTokens, IsMiddle, as_last, joined_line, joined_short, last_bytes, last_value, middle_number, middle_word, number_spelled, tokens_again, value_spelled}
 
 -- What is printed of an input spells it, and its tokens can be joined.
 record IsPrinted (version n i : ℕ) (input : Input) (tokens : List (List ℕ)) : Type 0 where

@@ -1,6 +1,6 @@
 -- How a run takes what a line says: the entry of a run is taken from the line that spells it, and what is taken is an
 -- entry that the line spells.
-use Rattle.std.proofs.Common.{◌≡◌, ◌+◌, ◌-◌, ◌≤◌, ℕ, suc, zero, Bool, true, false, Option, Some, None, Result, Ok, Err, List, [], ◌∷◌, ◌++◌, length, refl, sym, ap, ◌∙◌, subst, ◌⊎◌, inl, inr, arith, length-append}
+use Rattle.std.proofs.Common.{◌≡◌, ◌-◌, ℕ, Bool, true, false, Option, Some, None, Result, Ok, Err, List, [], ◌∷◌, ◌++◌, length, refl, sym, ap, ◌∙◌, subst, inl, inr, arith, length-append}
 use Rattle.std.specs.Prelude.{◌==◌, cond, IfSome, option_and_then, slice_get}
 use Rattle.std.specs.Str.{bytes_eq}
 use Rattle.std.proofs.lemmas.Bool.{cases_Bool, cond-false, cond-true}
@@ -13,14 +13,13 @@ use Rattle.faust_text.proofs.FieldLaws.{bind_ok}
 use Rattle.faust_record.specs.Acting.{AreInputBytes}
 use Rattle.faust_record.specs.Entries.{arrival_at, entry_at, replay}
 use Rattle.faust_record.specs.Laws.{pushed_as}
-use Rattle.faust_record.specs.Refusals.{IsInput, acted, arrived, arrived_at, as_push_error, push_of, recorded, recorded_unless, refusal_at}
+use Rattle.faust_record.specs.Refusals.{IsInput, acted, arrived, arrived_at, push_of, recorded, recorded_unless, refusal_at}
 use Rattle.faust_record.specs.Runs.{IsRun, Run, arriving, entries_of, next_message}
 use Rattle.faust_record.specs.declared.entry.Input.{Input}
 use Rattle.faust_record.specs.declared.entry.Input.TheVariants as inputs
 use Rattle.faust_record.specs.declared.entry.Entry.{Entry}
 use Rattle.faust_record.specs.declared.errors.PushError.{PushError}
 use Rattle.faust_record.specs.declared.errors.Refusal.{Refusal}
-use Rattle.faust_record.specs.declared.run_record.PushInput.{PushInput}
 use Rattle.faust_record.specs.declared.run_record.PushInput.TheVariants as given
 use Rattle.faust_record.proofs.Inputs.{may-come}
 use Rattle.faust_record.proofs.Runs.{run-acted, run-arrived}
@@ -28,7 +27,7 @@ use Rattle.faust_store.specs.declared.entry_line.EntryLine.{EntryLine}
 use Rattle.faust_store.specs.declared.entry_line.EntryLine.TheVariants as lines
 use Rattle.faust_store.specs.InRange.{IsLineFor}
 use Rattle.faust_store.specs.Kept.{arrival_of, last_arrival}
-use Rattle.faust_store.specs.Reading.{arriving_as, cause_of_push, framed, is_due, pushed, taken}
+use Rattle.faust_store.specs.Reading.{arriving_as, framed, is_due, pushed, taken}
 use Rattle.faust_store.specs.Records.{SpellsArrival, SpellsInput, SpellsLine}
 
 -- What the line of an entry says.

@@ -1,15 +1,15 @@
 -- Tokens that are printed: they are read again as they are joined, and their line isn't too long.
-use Rattle.std.proofs.Common.{◌≡◌, ◌≢◌, ℕ, ◌^◌, ◌+◌, ◌*◌, ◌<◌, ◌≤◌, suc, Bool, true, false, cond, not, ltb, eqb, ◌&&◌, List, [], ◌∷◌, ◌++◌, length, get_or, Option, Some, None, refl, sym, ap, ◌∙◌, subst, ◌⊎◌, inl, inr, arith, length-append}
+use Rattle.std.proofs.Common.{◌≡◌, ◌≢◌, ℕ, ◌^◌, ◌+◌, ◌*◌, ◌<◌, ◌≤◌, suc, Bool, true, false, not, ltb, eqb, ◌&&◌, List, [], ◌∷◌, ◌++◌, length, get_or, Some, None, refl, sym, ap, ◌∙◌, subst, ◌⊎◌, inl, inr, arith, length-append}
 use Rattle.std.specs.Fmt.{decimal}
 use Rattle.std.specs.List.{list_all}
 use Rattle.std.proofs.lemmas.Bool.{and_parts, both_ways, cases_Bool, cond-false, cond-true, false≢true, ne_eqb, not-true}
 use Rattle.std.proofs.lemmas.Fmt.{length-decimal-le}
 use Rattle.hex.specs.Hex.{encode_lower, lower_digits}
 use Rattle.hex.proofs.HexLemmas.{length-encode_with}
-use Rattle.faust_types.specs.Bytes.{AreBytes, IsValue}
+use Rattle.faust_types.specs.Bytes.{IsValue}
 use Rattle.faust_text.specs.Fields.{value}
 use Rattle.faust_text.specs.Lines.{IsWithout}
-use Rattle.faust_text.specs.Numbers.{is_number, number_of, worth}
+use Rattle.faust_text.specs.Numbers.{is_number, worth}
 use Rattle.faust_text.specs.Spelled.{IsNumberIn, SpellsField}
 use Rattle.faust_text.specs.Tokens.{CanBeJoined, IsPlainToken, IsQuotedToken, joined, tokens_of}
 use Rattle.faust_text.specs.Values.{bytes_text, is_hex, is_plain, quoted_text, value_text}

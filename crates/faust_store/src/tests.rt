@@ -1,13 +1,16 @@
 use crate::error::StoreError;
 use crate::printing::print_record;
 use crate::reading::read_record;
+use crate::stage::MAX_RECORD_ENTRIES;
+use faust_record::RunRecord;
 use faust_text::Cause;
 use faust_types::{Bytes, OutOfMemory, Sequence};
+use std::alloc::Global;
 use std::process::Abort;
 use std::test::Fail;
 
 /// The record of a worked run, of version 1, with an entry of each other kind behind it.
-const OLD: &[&[u8]] = &[
+const OLD: [&[u8]; 7] = [
     b"faust-record 1\n",
     b"clients 2\nkey 000102030405060708090a0b0c0d0e0f\ndelta 1000\ndummy 1000000\n",
     b"0 begin 1 write \"a\"\n",
@@ -18,7 +21,7 @@ const OLD: &[&[u8]] = &[
 ];
 
 /// The same of version 2, with the worked bytes of its messages.
-const WHOLE: &[&[u8]] = &[
+const WHOLE: [&[u8]; 7] = [
     b"faust-record 2\nwire 1\n",
     b"clients 2\nkey 000102030405060708090a0b0c0d0e0f\ndelta 1000\ndummy 1000000\n",
     b"0 begin 1 write \"a\"\n",
@@ -37,16 +40,30 @@ fn joined(rt: &(impl Abort + AllocGlobal), pieces: &[&[u8]]) -> Result<Bytes, Ou
     Ok(text)
 }
 
+/// The record of a run that has one.
+fn printed(alloc: Global, run: &RunRecord, version: u8) -> Result<Bytes, OutOfMemory> {
+    if run.len() > MAX_RECORD_ENTRIES {
+        return Err(OutOfMemory);
+    }
+    if version == 2 {
+        return print_record(alloc, run, 2);
+    }
+    if run.config().wire != 1 {
+        return Err(OutOfMemory);
+    }
+    print_record(alloc, run, 1)
+}
+
 #[test]
 fn both_versions_are_read_and_printed(rt: HostRuntime) -> Result<(), Fail> {
-    let old = joined(&rt, OLD)?;
-    let whole = joined(&rt, WHOLE)?;
+    let old = joined(&rt, &OLD)?;
+    let whole = joined(&rt, &WHOLE)?;
     let run = read_record(rt.alloc(), old.as_slice())?;
     assert_eq!(rt; run.len(), 7);
-    let printed = print_record(rt.alloc(), &run, 1)?;
-    assert!(rt; printed.as_slice() == old.as_slice());
-    let printed = print_record(rt.alloc(), &run, 2)?;
-    assert!(rt; printed.as_slice() == whole.as_slice());
+    let first = printed(rt.alloc(), &run, 1)?;
+    assert!(rt; first.as_slice() == old.as_slice());
+    let second = printed(rt.alloc(), &run, 2)?;
+    assert!(rt; second.as_slice() == whole.as_slice());
     let again = read_record(rt.alloc(), whole.as_slice())?;
     assert_eq!(rt; again.len(), 7);
     Ok(())

@@ -1,4 +1,4 @@
-use Rattle.std.proofs.Common.{◌≡◌, sym, Some, None}
+use Rattle.std.proofs.Common.{sym}
 use Rattle.faust_store.proofs.Counting.{number_none, number_same}
 use Rattle.faust_store.proofs.entry_line.is_number_of.Goals as goal
 

@@ -1,4 +1,4 @@
-use Rattle.std.proofs.Common.{◌≡◌, ◌+◌, ◌++◌, ℕ, List, sym, ap, ◌∙◌, arith}
+use Rattle.std.proofs.Common.{◌+◌, ◌++◌, ℕ, List, sym, ap, ◌∙◌, arith}
 use Rattle.faust_store.proofs.PrintedText.{text_ended, text_from, text_put, text_skipped}
 use Rattle.faust_store.proofs.printing.print_record.Goals.{in-Some+in_ok-put_entry, in_default}
 use Rattle.faust_store.proofs.printing.print_record.Goals as goal
