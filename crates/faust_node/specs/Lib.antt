@@ -1,0 +1,6 @@
+pub mod Sessions
+pub mod Cells
+pub mod Steps
+pub mod Receipts
+pub mod Sending
+pub mod Serving

@@ -1,0 +1,48 @@
+-- What a user gets for an operation: its answer as the journal has it, with the number of the entry that gave it. The
+-- promise on receipts rests on it.
+use Rattle.std.specs.Prelude.{◌≡◌, ◌≤◌, ℕ, false, List, Option, Some, None, slice_get}
+use Rattle.faust_types.specs.declared.operation.Answer.{Answer}
+use Rattle.faust_types.specs.declared.operation.Kind.{Kind}
+use Rattle.faust_types.specs.declared.operation.Kind.TheVariants.{Write, Read}
+use Rattle.faust_types.specs.declared.operation.Operation.{Operation}
+use Rattle.faust_record.specs.declared.entry.Entry.{Entry}
+use Rattle.faust_node.specs.declared.receipt.Receipt.{Receipt}
+
+-- A write has its client's register, no value, and `asof` 0.
+pub record IsWriteAnswer (answer : Answer) : Type 0 where
+  pub own_register : answer.op.register ≡ answer.op.name.client
+  pub no_value : answer.value ≡ None
+  pub no_asof : answer.asof ≡ 0
+
+abbrev pub IsPlain : Kind → Answer → Type 0
+IsPlain Write answer = IsWriteAnswer answer
+IsPlain Read answer = Unit {0}
+
+-- An answer that a user may get: none to a dummy read.
+pub record IsUserAnswer (answer : Answer) : Type 0 where
+  pub asked : answer.op.dummy ≡ false
+  pub plain : IsPlain answer.op.kind answer
+
+-- An answer to this operation, as a user may get it.
+pub record IsAnswerTo (op : Operation) (answer : Answer) : Type 0 where
+  pub same_op : answer.op ≡ op
+  pub for_user : IsUserAnswer answer
+
+-- A receipt of this operation by a journal's entries: one of them gave this answer, and has this number.
+pub record IsReceiptOf (entries : List Entry) (op : Operation) (receipt : Receipt) : Type 0 where
+  pub place : ℕ
+  pub entry : Entry
+  pub stands : slice_get entries place ≡ Some entry
+  pub number_is : receipt.number ≡ entry.number
+  pub answer_is : entry.outcome.answer ≡ Some receipt.answer
+  pub same_op : receipt.answer.op ≡ op
+
+-- No entry from this place on answers this operation.
+abbrev pub IsUnanswered : List Entry → ℕ → Operation → Type 0
+IsUnanswered entries from op =
+    (place : ℕ) (entry : Entry) (answer : Answer) → from ≤ place → slice_get entries place ≡ Some entry
+    → entry.outcome.answer ≡ Some answer → IsAnswerTo op answer → ⊥
+
+abbrev pub FindsReceipt : List Entry → ℕ → Operation → Option Receipt → Type 0
+FindsReceipt entries from op None = IsUnanswered entries from op
+FindsReceipt entries from op (Some receipt) = IsReceiptOf entries op receipt
