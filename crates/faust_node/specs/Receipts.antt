@@ -1,6 +1,6 @@
 -- What a user gets for an operation: its answer as the journal has it, with the number of the entry that gave it. The
 -- promise on receipts rests on it.
-use Rattle.std.specs.Prelude.{◌≡◌, ◌≤◌, ℕ, false, List, Option, Some, None, slice_get}
+use Rattle.std.specs.Prelude.{◌≡◌, ◌<◌, ◌≤◌, ℕ, false, List, Option, Some, None, slice_get}
 use Rattle.faust_types.specs.declared.operation.Answer.{Answer}
 use Rattle.faust_types.specs.declared.operation.Kind.{Kind}
 use Rattle.faust_types.specs.declared.operation.Kind.TheVariants.{Write, Read}
@@ -43,6 +43,22 @@ IsUnanswered entries from op =
     (place : ℕ) (entry : Entry) (answer : Answer) → from ≤ place → slice_get entries place ≡ Some entry
     → entry.outcome.answer ≡ Some answer → IsAnswerTo op answer → ⊥
 
+-- The same of the entries before another place.
+abbrev pub IsUnansweredUpTo : List Entry → ℕ → ℕ → Operation → Type 0
+IsUnansweredUpTo entries from end op =
+    (place : ℕ) (entry : Entry) (answer : Answer) → from ≤ place → place < end → slice_get entries place ≡ Some entry
+    → entry.outcome.answer ≡ Some answer → IsAnswerTo op answer → ⊥
+
 abbrev pub FindsReceipt : List Entry → ℕ → Operation → Option Receipt → Type 0
 FindsReceipt entries from op None = IsUnanswered entries from op
 FindsReceipt entries from op (Some receipt) = IsReceiptOf entries op receipt
+
+-- The receipt that one entry gives of this operation, if it answers it.
+pub record IsGiven (entry : Entry) (receipt : Receipt) (op : Operation) : Type 0 where
+  pub number_is : receipt.number ≡ entry.number
+  pub answer_is : entry.outcome.answer ≡ Some receipt.answer
+  pub same_op : receipt.answer.op ≡ op
+
+abbrev pub GivesReceipt : Entry → Operation → Option Receipt → Type 0
+GivesReceipt entry op None = (answer : Answer) → entry.outcome.answer ≡ Some answer → IsAnswerTo op answer → ⊥
+GivesReceipt entry op (Some receipt) = IsGiven entry receipt op

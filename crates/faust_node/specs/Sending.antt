@@ -1,6 +1,6 @@
 -- What a journal has to send, and which of it comes next. The promise that each message goes out once and in order
 -- rests on it.
-use Rattle.std.specs.Prelude.{◌≡◌, ◌<◌, ◌≤◌, ℕ, List, [], ◌∷◌, ◌++◌, Option, Some, None, drop, length}
+use Rattle.std.specs.Prelude.{◌≡◌, ◌<◌, ℕ, List, [], ◌∷◌, ◌++◌, Option, Some, None, IfSome, drop}
 use Rattle.faust_types.specs.declared.outcome.Post.{Post}
 use Rattle.faust_link.specs.Frames.{IsFrame}
 use Rattle.faust_record.specs.Runs.{sent_in}
@@ -17,6 +17,11 @@ posts_in (entry ∷ rest) = entry.outcome.to_peers ++ posts_in rest
 abbrev pub AreCarried : List Post → Type 0
 AreCarried [] = Unit {0}
 AreCarried (post ∷ rest) = IsFrame post.bytes × AreCarried rest
+
+-- What an entry sends is carried by a link.
+pub record IsCarried (entry : Entry) : Type 0 where
+  pub to_server : IfSome entry.outcome.to_server IsFrame
+  pub to_peers : AreCarried entry.outcome.to_peers
 
 -- The first message that the entries from a place on sent to the server, and the place behind its entry.
 pub record IsNextMessage (entries : List Entry) (from : ℕ) (message : Dispatch) : Type 0 where

@@ -104,10 +104,20 @@ pub record MayBegin (cell : Cell) : Type 0 where
   pub not_refused : refusal_of cell ≡ None
   pub idle : is_idle cell.log.me (held_by cell.log) ≡ true
 
--- The client stepped, and this is the operation that it waits for now.
+-- An operation of the kind and on the register that were asked for.
+abbrev pub IsAskedFor : Input → Operation → Type 0
+IsAskedFor (inputs.Write value) op = op.kind ≡ Write
+IsAskedFor (inputs.Read register) op = (op.kind ≡ Read) × (op.register ≡ register)
+IsAskedFor (inputs.Reply bytes) op = Unit {0}
+IsAskedFor (inputs.Peer bytes) op = Unit {0}
+IsAskedFor (inputs.Tick moment) op = Unit {0}
+IsAskedFor (inputs.Arrive message) op = Unit {0}
+
+-- The client stepped, and this is the operation that it waits for now: the one that was asked for.
 pub record IsBegun (old new : Cell) (input : Input) (op : Operation) : Type 0 where
   pub stepped : IsStepped old new input
   pub waiting : (held_by new.log).waiting ≡ Some op
+  pub asked : IsAskedFor input op
 
 -- Where nothing began, memory is the cause.
 abbrev pub Begins : Result Operation OutOfMemory → Cell → Cell → Input → Type 0
@@ -156,15 +166,6 @@ Takes (Some (closings.Named client)) old new input = ⊥
 Takes (Some (closings.Turn expected got)) old new input = ⊥
 Takes (Some closings.Full) old new input = HasFilled old new
 Takes (Some closings.Memory) old new input = HasStarved old new
-
--- An operation of the kind and on the register that were asked for; a write is on its client's own.
-abbrev pub IsAskedFor : Input → Operation → Type 0
-IsAskedFor (inputs.Write value) op = op.kind ≡ Write
-IsAskedFor (inputs.Read register) op = (op.kind ≡ Read) × (op.register ≡ register)
-IsAskedFor (inputs.Reply bytes) op = Unit {0}
-IsAskedFor (inputs.Peer bytes) op = Unit {0}
-IsAskedFor (inputs.Tick moment) op = Unit {0}
-IsAskedFor (inputs.Arrive message) op = Unit {0}
 
 -- The errors that a user may get who asked for what may be asked for.
 abbrev pub IsMidway : NodeError → Type 0

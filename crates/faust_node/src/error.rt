@@ -1,7 +1,4 @@
-ghost use Rattle.std.specs.Prelude.{◌≡◌};
-ghost use Rattle.faust_node.specs.declared.error.NodeError.TheVariants as errors;
-
-use faust_types::{Closing, Notice, OutOfMemory};
+use faust_types::{Closing, Notice};
 use std::error::Error;
 use std::fmt;
 
@@ -32,11 +29,3 @@ impl fmt::Display for NodeError {
 }
 
 impl Error for NodeError {}
-
-impl From<OutOfMemory> for NodeError {
-    ghost from_gives = { λ _ e. e ≡ errors.OutOfMemory };
-
-    fn from(_error: OutOfMemory) -> NodeError {
-        NodeError::OutOfMemory
-    }
-}

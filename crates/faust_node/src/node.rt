@@ -4,6 +4,7 @@ ghost use Rattle.faust_types.specs.Clients.{IsClient};
 ghost use Rattle.faust_types.specs.Ranges.{IsConfig};
 ghost use Rattle.faust_types.specs.declared.operation.Kind.TheVariants.{Read, Write};
 ghost use Rattle.faust_ticket.specs.Holders.{first_seat};
+ghost use Rattle.faust_link.specs.Frames.{IsFrame};
 ghost use Rattle.faust_node.specs.Cells.{IsCell};
 ghost use Rattle.faust_node.specs.Steps.{IsAsked, IsAskedFor, IsMidway};
 
@@ -27,7 +28,7 @@ pub struct Node<T: Session> {
     pub(crate) cell: Mutex<NodeCell<T>>,
     pub(crate) changed: Condvar,
     clients: u8,
-    ghost greets: { 1 ≤ length hello × length hello ≤ 16384 },
+    ghost greets: { IsFrame hello },
     ghost counted: { clients ≡ T.config.clients },
 }
 
@@ -64,8 +65,10 @@ impl<T: Session> Node<T> {
         if value.len() > MAX_VALUE_LEN {
             return Err(NodeError::TooLong);
         }
-        let value = Bytes::from_slice(self.alloc, value)?;
-        self.complete(rt, Input::Write(value))
+        match Bytes::from_slice(self.alloc, value) {
+            Ok(value) => self.complete(rt, Input::Write(value)),
+            Err(_) => Err(NodeError::OutOfMemory),
+        }
     }
 
     /// Waits until the client is idle, begins to read this register, and waits for the completion.
@@ -116,8 +119,10 @@ impl<T: Session> Node<T> {
     {
         let mut from = cell.journal().len();
         for _ in rt.forever() {
-            if let Some(receipt) = cell.receipt_from(from, op)? {
-                return Ok(receipt);
+            match cell.receipt_from(from, op) {
+                Ok(Some(receipt)) => return Ok(receipt),
+                Ok(None) => {}
+                Err(_) => return Err(NodeError::OutOfMemory),
             }
             if let Some(error) = cell.refusal() {
                 return Err(error);

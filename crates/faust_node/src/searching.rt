@@ -1,6 +1,6 @@
 // Where a cell's journal has the answer to an operation.
 ghost use Rattle.std.specs.Prelude.{◌≡◌, ◌<◌, ◌≤◌, ◌↔◌, IsTrue, IfOk, IfSome, false, length};
-ghost use Rattle.faust_node.specs.Receipts.{FindsReceipt, IsAnswerTo};
+ghost use Rattle.faust_node.specs.Receipts.{FindsReceipt, GivesReceipt, IsAnswerTo, IsPlain};
 
 use crate::cell::NodeCell;
 use crate::receipt::Receipt;
@@ -25,7 +25,9 @@ impl<T: Session> NodeCell<T> {
 }
 
 // The receipt of an operation, if this entry answers it.
-fn receipt_of(entry: &Entry, op: Operation) -> Result<Option<Receipt>, OutOfMemory> {
+fn receipt_of(entry: &Entry, op: Operation) -> Result<Option<Receipt>, OutOfMemory>
+    ensures { IfOk result (GivesReceipt entry.now op) }
+{
     match &entry.outcome.answer {
         Some(answer) => {
             if !is_answer_to(answer, op) {
@@ -44,7 +46,9 @@ fn is_answer_to(answer: &Answer, op: Operation) -> bool
 }
 
 // An answer to a write has its client's register, no value, and `asof` 0.
-fn is_plain(answer: &Answer) -> bool {
+fn is_plain(answer: &Answer) -> bool
+    ensures { IsTrue result ↔ IsPlain answer.now.op.kind answer.now }
+{
     match answer.op.kind {
         Kind::Read => true,
         Kind::Write => {

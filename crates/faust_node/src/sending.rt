@@ -1,11 +1,11 @@
 // What a cell's journal has to send next.
-ghost use Rattle.std.specs.Prelude.{◌≡◌, ◌<◌, IfOk};
-ghost use Rattle.faust_node.specs.Sending.{FindsBatch, FindsMessage};
+ghost use Rattle.std.specs.Prelude.{◌≡◌, ◌<◌, IfOk, IfSome, option_copied, slice_get};
+ghost use Rattle.faust_node.specs.Sending.{FindsBatch, FindsMessage, IsCarried};
 
 use crate::cell::NodeCell;
 use crate::session::Session;
+use faust_record::Entry;
 use faust_types::{Bytes, OutOfMemory, Post, Posts};
-use std::alloc::Global;
 
 /// A message to the server, and the place behind the entry that sent it.
 #[derive(Debug, Drop)]
@@ -22,12 +22,21 @@ pub struct Batch {
 }
 
 impl<T: Session> NodeCell<T> {
+    // The entry at a place. A journal's entries send what a link carries.
+    fn entry(&self, place: u64) -> Option<&Entry>
+        ensures entry { option_copied result ≡ slice_get self.now.log.entries place }
+        ensures carried { IfSome (option_copied result) IsCarried }
+    {
+        let _client = self.journal().client();
+        self.journal().entry(place)
+    }
+
     /// The first message that the entries from this place on sent to the server: none exactly where they sent none.
     pub fn message_from(&self, from: u64) -> Result<Option<Dispatch>, OutOfMemory>
         ensures { IfOk result (FindsMessage self.now.log.entries from) }
     {
         for place in from..self.journal().len() {
-            if let Some(entry) = self.journal().entry(place) {
+            if let Some(entry) = self.entry(place) {
                 if let Some(bytes) = &entry.outcome.to_server {
                     return Ok(Some(Dispatch {
                         bytes: bytes.copy()?,
@@ -44,7 +53,7 @@ impl<T: Session> NodeCell<T> {
         ensures { IfOk result (FindsBatch self.now.log.entries from) }
     {
         for place in from..self.journal().len() {
-            if let Some(entry) = self.journal().entry(place) {
+            if let Some(entry) = self.entry(place) {
                 let posts = &entry.outcome.to_peers;
                 if !posts.is_empty() {
                     return Ok(Some(Batch {

@@ -33,7 +33,8 @@ impl<T: Session> Node<T> {
             let mut frame = Bytes::new(self.alloc);
             match link.recv(&mut frame) {
                 Ok(Got::Frame) => {}
-                Ok(Got::Ended | Got::Idle) => return Closing::Ended,
+                Ok(Got::Ended) => return Closing::Ended,
+                Ok(Got::Idle) => unreachable!(),
                 Err(error) => return cause_of(error),
             }
             if let Some(cause) = self.hand_in(rt, Input::Reply(frame)) {
@@ -66,7 +67,8 @@ impl<T: Session> Node<T> {
                         return cause;
                     }
                 }
-                Ok(Got::Idle | Got::Ended) => thread::yield_now(),
+                Ok(Got::Idle) => thread::yield_now(),
+                Ok(Got::Ended) => unreachable!(),
                 Err(error) => return cause_of(error),
             }
         }

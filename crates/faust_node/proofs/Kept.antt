@@ -1,0 +1,106 @@
+-- What a cell keeps, through each of its changes.
+use Rattle.std.proofs.Common.{◌≡◌, ◌+◌, ◌-◌, ◌^◌, ◌<◌, ◌≤◌, ℕ, suc, All, List, [], ◌∷◌, ◌++◌, length, Option, Some, None, IfSome, slice_get, slice_index_or, refl, sym, ap, ◌∙◌, subst, arith, length-append}
+use Rattle.std.proofs.lemmas.List.{length-map, map-append}
+use Rattle.faust_types.specs.declared.arrival.Closing.{Closing}
+use Rattle.faust_types.specs.declared.arrival.Closing.TheVariants as closings
+use Rattle.faust_types.specs.declared.config.Config.{Config}
+use Rattle.faust_ticket.specs.Holders.{SeatView, after_draw}
+use Rattle.faust_record.specs.Journals.{IsNumberBehind, Log}
+use Rattle.faust_record.specs.Merging.{numbers_of}
+use Rattle.faust_record.specs.Refusals.{logged}
+use Rattle.faust_record.specs.declared.entry.Entry.{Entry}
+use Rattle.faust_node.specs.Cells.{Cell, HasNumbers, IsCell, closed_after, closed_by, first_cell, each_drawn, one_more}
+
+-- a number above those of all entries may come behind them
+all-behind : (number : ℕ) (x : ℕ) (xs : List ℕ) → All (λ (k : ℕ). k < number) (x ∷ xs) → All (λ (k : ℕ). k < number) xs
+all-behind number x xs all k d inside = all (suc k) d (omega (arith, inside))
+
+pub number-behind : (number : ℕ) (entries : List Entry) → All (λ (k : ℕ). k < number) (numbers_of entries) → IsNumberBehind entries number
+number-behind number [] all = tt
+number-behind number (x ∷ []) all = all 0 0 (omega arith)
+number-behind number (x ∷ y ∷ xs) all =
+    let rest = number-behind number (y ∷ xs) (all-behind number x.number (numbers_of (y ∷ xs)) all) in
+    let place : suc (length (y ∷ xs) - 1) ≡ length (x ∷ y ∷ xs) - 1 = omega arith in
+    subst (λ (k : ℕ). IfSome (slice_get (x ∷ y ∷ xs) k) (λ (last : Entry). last.number < number)) place rest
+
+-- the numbers of a cell that isn't closed with Memory
+pub numbers-drawn : (config : Config) (cell : Cell) → IsCell config cell → (cell.closed ≡ Some closings.Memory → ⊥)
+    → cell.seat.drawn ≡ numbers_of cell.log.entries
+numbers-drawn config cell kept open = drawn cell.log cell.seat cell.closed kept.numbered open where
+  drawn : (log : Log) (seat : SeatView) (closed : Option Closing) → HasNumbers (numbers_of log.entries) seat.drawn closed
+      → (closed ≡ Some closings.Memory → ⊥) → seat.drawn ≡ numbers_of log.entries
+  drawn log seat closed (each_drawn same) open = same
+  drawn log seat closed (one_more x more memory) open = absurd (open memory)
+
+pub spare-left : (config : Config) (cell : Cell) → IsCell config cell → (cell.closed ≡ Some closings.Memory → ⊥)
+    → length cell.log.entries < 200000 → 0 < cell.seat.spare
+spare-left config cell kept open few =
+    let same : length cell.seat.drawn ≡ length cell.log.entries =
+    ap length (numbers-drawn config cell kept open) ∙ length-map cell.log.entries (λ (e : Entry). e.number) in
+    omega (arith, same, few, kept.spare_left)
+
+pub kept-stepped : (config : Config) (log longer : Log) (seat after : SeatView) (closed : Option Closing) (entry : Entry)
+    → IsCell config (record { log = log; seat = seat; closed = closed }) → (closed ≡ Some closings.Memory → ⊥) → 0 < seat.spare
+    → longer ≡ logged log entry → after ≡ after_draw seat entry.number
+    → IsCell config (record { log = longer; seat = after; closed = closed })
+kept-stepped config log longer seat after closed entry kept open spare longer_is after_is =
+    let cell : Cell = record { log = log; seat = seat; closed = closed } in
+    let before : seat.drawn ≡ numbers_of log.entries = numbers-drawn config cell kept open in
+    let drawn : after.drawn ≡ numbers_of longer.entries =
+    ap (λ (s : SeatView). s.drawn) after_is ∙ ap (λ (l : List ℕ). l ++ entry.number ∷ []) before
+    ∙ sym (map-append (λ (e : Entry). e.number) log.entries (entry ∷ []))
+    ∙ ap (λ (l : Log). numbers_of l.entries) (sym longer_is) in
+    let count : length after.drawn ≡ length seat.drawn + 1 =
+    ap (λ (s : SeatView). length s.drawn) after_is ∙ length-append seat.drawn (entry.number ∷ []) in
+    let less : after.spare ≡ seat.spare - 1 = ap (λ (s : SeatView). s.spare) after_is in
+    record {
+      of_config = ap (λ (l : Log). l.config) longer_is ∙ kept.of_config;
+      numbered = each_drawn drawn;
+      spare_left = omega (arith, kept.spare_left, count, less, spare);
+    }
+
+pub kept-starved : (config : Config) (log same : Log) (seat after : SeatView) (closed : Option Closing) (number : ℕ)
+    → IsCell config (record { log = log; seat = seat; closed = closed }) → (closed ≡ Some closings.Memory → ⊥) → 0 < seat.spare
+    → same ≡ log → after ≡ after_draw seat number
+    → IsCell config (record { log = same; seat = after; closed = Some closings.Memory })
+kept-starved config log same seat after closed number kept open spare same_is after_is =
+    let cell : Cell = record { log = log; seat = seat; closed = closed } in
+    let before : seat.drawn ≡ numbers_of log.entries = numbers-drawn config cell kept open in
+    let drawn : after.drawn ≡ numbers_of same.entries ++ number ∷ [] =
+    ap (λ (s : SeatView). s.drawn) after_is ∙ ap (λ (l : List ℕ). l ++ number ∷ []) before
+    ∙ ap (λ (l : Log). numbers_of l.entries ++ number ∷ []) (sym same_is) in
+    let count : length after.drawn ≡ length seat.drawn + 1 =
+    ap (λ (s : SeatView). length s.drawn) after_is ∙ length-append seat.drawn (number ∷ []) in
+    let less : after.spare ≡ seat.spare - 1 = ap (λ (s : SeatView). s.spare) after_is in
+    record {
+      of_config = ap (λ (l : Log). l.config) same_is ∙ kept.of_config;
+      numbered = one_more number drawn refl;
+      spare_left = omega (arith, kept.spare_left, count, less, spare);
+    }
+
+memory-stays : (cause : Closing) → closed_after (Some closings.Memory) cause ≡ Some closings.Memory
+memory-stays closings.Asked = refl
+memory-stays (closings.Failed notice) = refl
+memory-stays closings.Ended = refl
+memory-stays closings.Link = refl
+memory-stays closings.Malformed = refl
+memory-stays (closings.Named client) = refl
+memory-stays (closings.Turn expected got) = refl
+memory-stays closings.Full = refl
+memory-stays closings.Memory = refl
+
+numbered-closed : (numbers drawn : List ℕ) (closed : Option Closing) (cause : Closing) → HasNumbers numbers drawn closed
+    → HasNumbers numbers drawn (closed_after closed cause)
+numbered-closed numbers drawn closed cause (each_drawn same) = each_drawn same
+numbered-closed numbers drawn closed cause (one_more x more memory) =
+    one_more x more (ap (λ (c : Option Closing). closed_after c cause) memory ∙ memory-stays cause)
+
+pub kept-closed : (config : Config) (cell : Cell) (cause : Closing) → IsCell config cell → IsCell config (closed_by cell cause)
+kept-closed config cell cause kept = record {
+  of_config = kept.of_config;
+  numbered = numbered-closed (numbers_of cell.log.entries) cell.seat.drawn cell.closed cause kept.numbered;
+  spare_left = kept.spare_left;
+}
+
+pub kept-first : (config : Config) (me : ℕ) → IsCell config (first_cell config me)
+kept-first config me = record { of_config = refl; numbered = each_drawn refl; spare_left = omega arith }
