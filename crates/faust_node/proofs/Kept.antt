@@ -1,5 +1,5 @@
 -- What a cell keeps, through each of its changes.
-use Rattle.std.proofs.Common.{◌≡◌, ◌+◌, ◌-◌, ◌^◌, ◌<◌, ◌≤◌, ℕ, suc, All, List, [], ◌∷◌, ◌++◌, length, Option, Some, None, IfSome, slice_get, slice_index_or, refl, sym, ap, ◌∙◌, subst, arith, length-append}
+use Rattle.std.proofs.Common.{◌≡◌, ◌+◌, ◌-◌, ◌^◌, ◌<◌, ◌≤◌, ℕ, suc, All, List, [], ◌∷◌, ◌++◌, length, Option, Some, None, IfSome, slice_get, Result, Ok, Err, refl, sym, ap, ◌∙◌, subst, arith, length-append}
 use Rattle.std.proofs.lemmas.List.{length-map, map-append}
 use Rattle.faust_types.specs.declared.arrival.Closing.{Closing}
 use Rattle.faust_types.specs.declared.arrival.Closing.TheVariants as closings
@@ -7,9 +7,14 @@ use Rattle.faust_types.specs.declared.config.Config.{Config}
 use Rattle.faust_ticket.specs.Holders.{SeatView, after_draw}
 use Rattle.faust_record.specs.Journals.{IsNumberBehind, Log}
 use Rattle.faust_record.specs.Merging.{numbers_of}
-use Rattle.faust_record.specs.Refusals.{logged}
+use Rattle.faust_record.specs.Entries.{entry_at}
+use Rattle.faust_record.specs.Refusals.{StepRefuses, logged, step_of}
+use Rattle.faust_record.specs.declared.entry.Input.{Input}
+use Rattle.faust_record.specs.declared.errors.StepError.{StepError}
 use Rattle.faust_record.specs.declared.entry.Entry.{Entry}
-use Rattle.faust_node.specs.Cells.{Cell, HasNumbers, IsCell, closed_after, closed_by, first_cell, each_drawn, one_more}
+use Rattle.faust_node.specs.Cells.{Cell, HasNumbers, IsCell, closed_after, closed_by, each_drawn, first_cell, held_by, one_more}
+use Rattle.faust_node.specs.Steps.{step_refused}
+use Rattle.faust_node.proofs.Refused.{few-entries, free-step, refused-same}
 
 -- a number above those of all entries may come behind them
 all-behind : (number : ℕ) (x : ℕ) (xs : List ℕ) → All (λ (k : ℕ). k < number) (x ∷ xs) → All (λ (k : ℕ). k < number) xs
@@ -104,3 +109,32 @@ kept-closed config cell cause kept = record {
 
 pub kept-first : (config : Config) (me : ℕ) → IsCell config (first_cell config me)
 kept-first config me = record { of_config = refl; numbered = each_drawn refl; spare_left = omega arith }
+
+-- the journal's step with a number that was drawn, where no refusal could be foreseen
+ok-same : (a b : Log) → Ok a ≡ Ok b → a ≡ b
+ok-same a b is = cc
+
+pub kept-taken : (config : Config) (log new : Log) (seat after : SeatView) (closed : Option Closing) (number : ℕ) (input : Input)
+    → IsCell config (record { log = log; seat = seat; closed = closed }) → (closed ≡ Some closings.Memory → ⊥)
+    → step_refused log input ≡ None → after ≡ after_draw seat number → step_of log number input ≡ Ok new
+    → IsCell config (record { log = new; seat = after; closed = closed })
+kept-taken config log new seat after closed number input kept open free after_is taken =
+    let cell : Cell = record { log = log; seat = seat; closed = closed } in
+    let entry : Entry = entry_at log.config log.me (held_by log) number input in
+    let longer : new ≡ logged log entry = ok-same new (logged log entry) (sym taken ∙ free-step log number input free) in
+    kept-stepped config log new seat after closed entry kept open (spare-left config cell kept open (few-entries log input free)) longer after_is
+
+pub kept-refused : (config : Config) (log new : Log) (seat after : SeatView) (closed : Option Closing) (number : ℕ) (input : Input)
+    (e : StepError) → IsCell config (record { log = log; seat = seat; closed = closed }) → (closed ≡ Some closings.Memory → ⊥)
+    → step_refused log input ≡ None → after ≡ after_draw seat number → StepRefuses e log new (step_of log number input)
+    → IsCell config (record { log = new; seat = after; closed = Some closings.Memory })
+kept-refused config log new seat after closed number input e kept open free after_is refused =
+    let cell : Cell = record { log = log; seat = seat; closed = closed } in
+    kept-starved config log new seat after closed number kept open (spare-left config cell kept open (few-entries log input free))
+    (refused-same e log new (step_of log number input) refused) after_is
+
+pub drawn-behind : (config : Config) (cell : Cell) (number : ℕ) → IsCell config cell → (cell.closed ≡ Some closings.Memory → ⊥)
+    → All (λ (k : ℕ). k < number) cell.seat.drawn → IsNumberBehind cell.log.entries number
+drawn-behind config cell number kept open above =
+    number-behind number cell.log.entries
+    (subst (λ (l : List ℕ). All (λ (k : ℕ). k < number) l) (numbers-drawn config cell kept open) above)

@@ -8,3 +8,5 @@ pub mod Begun
 pub mod Carried
 -- the first entry from a place on
 pub mod First
+-- each message of a list is carried
+pub mod Posts

@@ -1,5 +1,6 @@
 -- When a journal's step is refused, and what it leaves.
 use Rattle.std.proofs.Common.{◌≡◌, ◌<◌, ℕ, Bool, true, false, cond, List, [], ◌∷◌, ◌++◌, length, Option, Some, None, Result, Ok, Err, nat_le, nat_lt, refl, sym, ap, ◌∙◌}
+use Rattle.std.proofs.lemmas.Bool.{ltb-true}
 use Rattle.faust_types.specs.declared.config.Config.{Config}
 use Rattle.faust_types.specs.declared.operation.Notice.{Notice}
 use Rattle.faust_agent.specs.State.{is_idle}
@@ -15,8 +16,8 @@ use Rattle.faust_record.specs.declared.errors.Refusal.{Refusal}
 use Rattle.faust_record.specs.declared.errors.Refusal.TheVariants as refusals
 use Rattle.faust_record.specs.declared.errors.StepError.{StepError}
 use Rattle.faust_record.specs.declared.errors.StepError.TheVariants as steps
-use Rattle.faust_node.specs.Cells.{held_by}
-use Rattle.faust_node.specs.Steps.{begin_refused_by, input_refused, step_refused}
+use Rattle.faust_node.specs.Cells.{Cell, held_by}
+use Rattle.faust_node.specs.Steps.{Refuses, begin_refused_by, input_refused, step_refused}
 
 -- a client's refusal as one of the journal's
 abbrev as_refused : Option Refusal → Option StepError
@@ -85,3 +86,62 @@ refused-same steps.NoRegister old new due refused = refused.0
 refused-same (steps.Failed notice) old new due refused = refused.0
 refused-same steps.Busy old new due refused = refused.0
 refused-same steps.OutOfMemory old new due refused = refused
+
+-- want of memory is no refusal that can be foreseen
+begin-never : (notice : Option Notice) (idle : Bool) → begin_refused_by notice idle ≡ Some steps.OutOfMemory → ⊥
+begin-never None true is = absurd (cc)
+begin-never None false is = absurd (cc)
+begin-never (Some notice) idle is = absurd (cc)
+
+cond-never : (b : Bool) (x y : Option StepError) → (x ≡ Some steps.OutOfMemory → ⊥) → (y ≡ Some steps.OutOfMemory → ⊥)
+    → cond b x y ≡ Some steps.OutOfMemory → ⊥
+cond-never true x y left right is = left is
+cond-never false x y left right is = right is
+
+long-never : Some steps.TooLong ≡ Some steps.OutOfMemory → ⊥
+long-never is = absurd (cc)
+
+register-never : Some steps.NoRegister ≡ Some steps.OutOfMemory → ⊥
+register-never is = absurd (cc)
+
+full-never : Some steps.Full ≡ Some steps.OutOfMemory → ⊥
+full-never is = absurd (cc)
+
+none-never : None ≡ Some steps.OutOfMemory → ⊥
+none-never is = absurd (cc)
+
+input-never : (config : Config) (me : ℕ) (st : Client) (input : Input) → input_refused config me st input ≡ Some steps.OutOfMemory → ⊥
+input-never config me st (inputs.Write value) is =
+    cond-never (nat_le (length value) 4096) (begin_refused_by st.notice (is_idle me st)) (Some steps.TooLong)
+    (begin-never st.notice (is_idle me st)) long-never is
+input-never config me st (inputs.Read register) is =
+    cond-never (is_register config.clients register) (begin_refused_by st.notice (is_idle me st)) (Some steps.NoRegister)
+    (begin-never st.notice (is_idle me st)) register-never is
+input-never config me st (inputs.Reply bytes) is = none-never is
+input-never config me st (inputs.Peer bytes) is = none-never is
+input-never config me st (inputs.Tick moment) is = none-never is
+input-never config me st (inputs.Arrive message) is = none-never is
+
+step-never : (log : Log) (input : Input) → step_refused log input ≡ Some steps.OutOfMemory → ⊥
+step-never log input is =
+    cond-never (nat_lt (length log.entries) 200000) (input_refused log.config log.me (held_by log) input) (Some steps.Full)
+    (input-never log.config log.me (held_by log) input) full-never is
+
+-- what a cell answers where its journal refuses a step
+pub cell-refuses : (e : StepError) (old new : Cell) (input : Input) → step_refused old.log input ≡ Some e → new ≡ old → Refuses e old new input
+cell-refuses steps.Full old new input is same = record { refused = refused-step old.log input steps.Full is; same = same }
+cell-refuses steps.TooLong old new input is same = record { refused = refused-step old.log input steps.TooLong is; same = same }
+cell-refuses steps.NoRegister old new input is same = record { refused = refused-step old.log input steps.NoRegister is; same = same }
+cell-refuses (steps.Failed notice) old new input is same =
+    record { refused = refused-step old.log input (steps.Failed notice) is; same = same }
+cell-refuses steps.Busy old new input is same = record { refused = refused-step old.log input steps.Busy is; same = same }
+cell-refuses steps.OutOfMemory old new input is same = absurd (step-never old.log input is)
+
+room-at : (b : Bool) (r : Option StepError) → cond b r (Some steps.Full) ≡ None → b ≡ true
+room-at true r is = refl
+room-at false r is = absurd (cc)
+
+pub few-entries : (log : Log) (input : Input) → step_refused log input ≡ None → length log.entries < 200000
+few-entries log input is =
+    ltb-true (length log.entries) 200000
+    (room-at (nat_lt (length log.entries) 200000) (input_refused log.config log.me (held_by log) input) is)

@@ -2,26 +2,12 @@
 -- promise on receipts rests on it.
 use Rattle.std.specs.Prelude.{◌≡◌, ◌<◌, ◌≤◌, ℕ, false, List, Option, Some, None, slice_get}
 use Rattle.faust_types.specs.declared.operation.Answer.{Answer}
-use Rattle.faust_types.specs.declared.operation.Kind.{Kind}
-use Rattle.faust_types.specs.declared.operation.Kind.TheVariants.{Write, Read}
+
+use Rattle.faust_types.specs.declared.operation.Kind.TheVariants.{Write}
 use Rattle.faust_types.specs.declared.operation.Operation.{Operation}
 use Rattle.faust_record.specs.declared.entry.Entry.{Entry}
+use Rattle.faust_node.specs.Answers.{IsUserAnswer}
 use Rattle.faust_node.specs.declared.receipt.Receipt.{Receipt}
-
--- A write has its client's register, no value, and `asof` 0.
-pub record IsWriteAnswer (answer : Answer) : Type 0 where
-  pub own_register : answer.op.register ≡ answer.op.name.client
-  pub no_value : answer.value ≡ None
-  pub no_asof : answer.asof ≡ 0
-
-abbrev pub IsPlain : Kind → Answer → Type 0
-IsPlain Write answer = IsWriteAnswer answer
-IsPlain Read answer = Unit {0}
-
--- An answer that a user may get: none to a dummy read.
-pub record IsUserAnswer (answer : Answer) : Type 0 where
-  pub asked : answer.op.dummy ≡ false
-  pub plain : IsPlain answer.op.kind answer
 
 -- An answer to this operation, as a user may get it.
 pub record IsAnswerTo (op : Operation) (answer : Answer) : Type 0 where

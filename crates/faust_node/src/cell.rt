@@ -7,7 +7,7 @@ ghost use Rattle.faust_agent.specs.State.{is_idle};
 ghost use Rattle.faust_ticket.specs.Holders.{first_seat};
 ghost use Rattle.faust_record.specs.Runs.{arriving};
 ghost use Rattle.faust_record.specs.Refusals.{IsInput};
-ghost use Rattle.faust_node.specs.Cells.{IsCell, closed_by, first_cell, held_by, refusal_of, stop_of};
+ghost use Rattle.faust_node.specs.Cells.{IsCell, closed_after, closed_by, first_cell, held_by, refusal_of, stop_of};
 ghost use Rattle.faust_node.specs.Steps.{Begins, CellSteps, IsAsked, IsOutside, MayBegin, Takes, asked_for, begin_refused, step_refused};
 
 use crate::error::NodeError;
@@ -90,7 +90,7 @@ impl<T: Session> NodeCell<T> {
         requires may { MayBegin self.old }
         ensures { Begins result self.old self.new input }
     {
-        let op = next_operation(self.journal.agent(), &input);
+        let op = next_operation(self.journal.agent(), self.journal.client(), &input);
         match self.step(input) {
             Ok(()) => Ok(op),
             Err(_) => Err(OutOfMemory),
@@ -154,9 +154,7 @@ impl<T: Session> NodeCell<T> {
     pub fn close(&mut self, cause: Closing)
         ensures { self.new ≡ closed_by self.old cause }
     {
-        if self.closed.is_none() || cause == Closing::Memory {
-            self.closed = Some(cause);
-        }
+        self.closed = Some(lasting(self.closed, cause));
     }
 
     /// Its journal.
@@ -185,6 +183,16 @@ impl<T: Session> NodeCell<T> {
             closed,
         } = self;
         (journal, seat, closed)
+    }
+}
+
+// The cause that stays: the first one, but for `Memory`.
+fn lasting(closed: Option<Closing>, cause: Closing) -> Closing
+    ensures { Some result ≡ closed_after closed cause }
+{
+    match closed {
+        Some(first) if cause != Closing::Memory => first,
+        _ => cause,
     }
 }
 
@@ -228,12 +236,13 @@ fn begin_refusal(agent: &Agent) -> Option<StepError>
     }
 }
 
-// The operation that an idle client begins where a user asks for this.
-fn next_operation(agent: &Agent, input: &Input) -> Operation
+// The operation that an idle client, of this number, begins where a user asks for this.
+fn next_operation(agent: &Agent, me: u8, input: &Input) -> Operation
+    requires me { me ≡ agent.now.me }
+    requires client { IsClient agent.now.config.clients me }
     requires idle { is_idle agent.now.me agent.now.client ≡ true }
     ensures { result ≡ asked_for agent.now.me agent.now.client input.now }
 {
-    let me = agent.me();
     let (kind, register) = match input {
         Input::Read(register) => (Kind::Read, *register),
         _ => (Kind::Write, me),

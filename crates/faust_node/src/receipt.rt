@@ -1,6 +1,6 @@
 // What a user gets for an operation that completed.
 ghost use Rattle.std.specs.Prelude.{◌≡◌};
-ghost use Rattle.faust_node.specs.Receipts.{IsUserAnswer};
+ghost use Rattle.faust_node.specs.Answers.{IsUserAnswer};
 
 use faust_types::Answer;
 

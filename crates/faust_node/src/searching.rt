@@ -1,6 +1,7 @@
 // Where a cell's journal has the answer to an operation.
 ghost use Rattle.std.specs.Prelude.{◌≡◌, ◌<◌, ◌≤◌, ◌↔◌, IsTrue, IfOk, IfSome, false, length};
-ghost use Rattle.faust_node.specs.Receipts.{FindsReceipt, GivesReceipt, IsAnswerTo, IsPlain};
+ghost use Rattle.faust_node.specs.Answers.{IsPlain};
+ghost use Rattle.faust_node.specs.Receipts.{FindsReceipt, GivesReceipt, IsAnswerTo};
 
 use crate::cell::NodeCell;
 use crate::receipt::Receipt;
@@ -47,7 +48,7 @@ fn is_answer_to(answer: &Answer, op: Operation) -> bool
 
 // An answer to a write has its client's register, no value, and `asof` 0.
 fn is_plain(answer: &Answer) -> bool
-    ensures { IsTrue result ↔ IsPlain answer.now.op.kind answer.now }
+    ensures { IsTrue result ↔ IsPlain answer.now }
 {
     match answer.op.kind {
         Kind::Read => true,

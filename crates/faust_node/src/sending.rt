@@ -52,13 +52,13 @@ impl<T: Session> NodeCell<T> {
     pub fn batch_from(&self, from: u64) -> Result<Option<Batch>, OutOfMemory>
         ensures { IfOk result (FindsBatch self.now.log.entries from) }
     {
-        for place in from..self.journal().len() {
-            if let Some(entry) = self.entry(place) {
+        for at in from..self.journal().len() {
+            if let Some(entry) = self.entry(at) {
                 let posts = &entry.outcome.to_peers;
                 if !posts.is_empty() {
                     return Ok(Some(Batch {
                         posts: copy_of(posts)?,
-                        behind: place + 1,
+                        behind: at + 1,
                     }));
                 }
             }
