@@ -30,7 +30,7 @@ use Rattle.faust_node.proofs.Refused.{free-step, refused-step}
 -- a cell that refuses nothing
 pub record IsFree (notice : Option Notice) (closed : Option Closing) (count : ℕ) : Type 0 where
   pub no_notice : notice ≡ None
-  pub open : closed ≡ None
+  pub awake : closed ≡ None
   pub room : nat_lt count 200000 ≡ true
 
 room-of : (b : Bool) → cond b None (Some errors.Full) ≡ None → b ≡ true
@@ -41,7 +41,7 @@ pub free-of : (notice : Option Notice) (closed : Option Closing) (count : ℕ) �
     → IsFree notice closed count
 free-of (Some notice) closed count is = absurd (cc)
 free-of None (Some cause) count is = absurd (cc)
-free-of None None count is = record { no_notice = refl; open = refl; room = room-of (nat_lt count 200000) is }
+free-of None None count is = record { no_notice = refl; awake = refl; room = room-of (nat_lt count 200000) is }
 
 -- what a user may ask for is taken by an idle client
 input-free : (config : Config) (me : ℕ) (st : Client) (input : Input) → IsAsked config.clients input
@@ -78,9 +78,7 @@ asked-free n cell input n_is asked may =
 -- a step that is due isn't refused, but for want of memory
 clash : (log : Log) (number : ℕ) (input : Input) (new : Log) (e : StepError) → step_of log number input ≡ Ok new
     → step_of log number input ≡ Err e → ⊥
-clash log number input new e ok err =
-    let both : Ok new ≡ Err e = sym ok ∙ err in
-    absurd (cc)
+clash log number input new e ok err = absurd (cc)
 
 pub only-memory : (e : StepError) (old new : Cell) (input : Input) → step_refused old.log input ≡ None → Refuses e old new input
     → IsOutOfMemory old new
@@ -185,8 +183,8 @@ begun-waits config me st (inputs.Arrive message) asked idle = absurd asked
 held-logged : (log : Log) (e : Entry) → held_by (logged log e) ≡ state_at log.config log.me (held_by log) e.input
 held-logged log e = replayed-append log.config log.me (first_client log.config.clients log.me) log.entries (e ∷ [])
 
-ok-same : (a b : Log) → Ok a ≡ Ok b → a ≡ b
-ok-same a b is = cc
+ok-same : (a b : Log) (r : Result Log StepError) → r ≡ Ok a → r ≡ Ok b → a ≡ b
+ok-same a b r first second = cc
 
 pub log-waits : (n : ℕ) (old : Cell) (new : Log) (number : ℕ) (input : Input) (op : Operation) → n ≡ old.log.config.clients
     → IsAsked n input → MayBegin old → step_of old.log number input ≡ Ok new → op ≡ asked_for old.log.me (held_by old.log) input
@@ -196,7 +194,7 @@ log-waits n old new number input op n_is asked may ok op_is =
     let st = held_by log in
     let entry : Entry = entry_at log.config log.me st number input in
     let same : logged log entry ≡ new =
-    ok-same (logged log entry) new (sym (free-step log number input (asked-free n old input n_is asked may)) ∙ ok) in
+    ok-same (logged log entry) new (step_of log number input) (free-step log number input (asked-free n old input n_is asked may)) ok in
     let here : IsAsked log.config.clients input = subst (λ (k : ℕ). IsAsked k input) n_is asked in
     ap (λ (l : Log). (held_by l).waiting) (sym same)
     ∙ ap (λ (c : Client). c.waiting) (held-logged log entry)

@@ -31,26 +31,26 @@ number-behind number (x ∷ y ∷ xs) all =
 -- the numbers of a cell that isn't closed with Memory
 pub numbers-drawn : (config : Config) (cell : Cell) → IsCell config cell → (cell.closed ≡ Some closings.Memory → ⊥)
     → cell.seat.drawn ≡ numbers_of cell.log.entries
-numbers-drawn config cell kept open = drawn cell.log cell.seat cell.closed kept.numbered open where
+numbers-drawn config cell kept awake = drawn cell.log cell.seat cell.closed kept.numbered awake where
   drawn : (log : Log) (seat : SeatView) (closed : Option Closing) → HasNumbers (numbers_of log.entries) seat.drawn closed
       → (closed ≡ Some closings.Memory → ⊥) → seat.drawn ≡ numbers_of log.entries
-  drawn log seat closed (each_drawn same) open = same
-  drawn log seat closed (one_more x more memory) open = absurd (open memory)
+  drawn log seat closed (each_drawn same) awake = same
+  drawn log seat closed (one_more x more memory) awake = absurd (awake memory)
 
 pub spare-left : (config : Config) (cell : Cell) → IsCell config cell → (cell.closed ≡ Some closings.Memory → ⊥)
     → length cell.log.entries < 200000 → 0 < cell.seat.spare
-spare-left config cell kept open few =
+spare-left config cell kept awake few =
     let same : length cell.seat.drawn ≡ length cell.log.entries =
-    ap length (numbers-drawn config cell kept open) ∙ length-map cell.log.entries (λ (e : Entry). e.number) in
+    ap length (numbers-drawn config cell kept awake) ∙ length-map cell.log.entries (λ (e : Entry). e.number) in
     omega (arith, same, few, kept.spare_left)
 
 pub kept-stepped : (config : Config) (log longer : Log) (seat after : SeatView) (closed : Option Closing) (entry : Entry)
     → IsCell config (record { log = log; seat = seat; closed = closed }) → (closed ≡ Some closings.Memory → ⊥) → 0 < seat.spare
     → longer ≡ logged log entry → after ≡ after_draw seat entry.number
     → IsCell config (record { log = longer; seat = after; closed = closed })
-kept-stepped config log longer seat after closed entry kept open spare longer_is after_is =
+kept-stepped config log longer seat after closed entry kept awake spare longer_is after_is =
     let cell : Cell = record { log = log; seat = seat; closed = closed } in
-    let before : seat.drawn ≡ numbers_of log.entries = numbers-drawn config cell kept open in
+    let before : seat.drawn ≡ numbers_of log.entries = numbers-drawn config cell kept awake in
     let drawn : after.drawn ≡ numbers_of longer.entries =
     ap (λ (s : SeatView). s.drawn) after_is ∙ ap (λ (l : List ℕ). l ++ entry.number ∷ []) before
     ∙ sym (map-append (λ (e : Entry). e.number) log.entries (entry ∷ []))
@@ -68,9 +68,9 @@ pub kept-starved : (config : Config) (log same : Log) (seat after : SeatView) (c
     → IsCell config (record { log = log; seat = seat; closed = closed }) → (closed ≡ Some closings.Memory → ⊥) → 0 < seat.spare
     → same ≡ log → after ≡ after_draw seat number
     → IsCell config (record { log = same; seat = after; closed = Some closings.Memory })
-kept-starved config log same seat after closed number kept open spare same_is after_is =
+kept-starved config log same seat after closed number kept awake spare same_is after_is =
     let cell : Cell = record { log = log; seat = seat; closed = closed } in
-    let before : seat.drawn ≡ numbers_of log.entries = numbers-drawn config cell kept open in
+    let before : seat.drawn ≡ numbers_of log.entries = numbers-drawn config cell kept awake in
     let drawn : after.drawn ≡ numbers_of same.entries ++ number ∷ [] =
     ap (λ (s : SeatView). s.drawn) after_is ∙ ap (λ (l : List ℕ). l ++ number ∷ []) before
     ∙ ap (λ (l : Log). numbers_of l.entries ++ number ∷ []) (sym same_is) in
@@ -111,30 +111,30 @@ pub kept-first : (config : Config) (me : ℕ) → IsCell config (first_cell conf
 kept-first config me = record { of_config = refl; numbered = each_drawn refl; spare_left = omega arith }
 
 -- the journal's step with a number that was drawn, where no refusal could be foreseen
-ok-same : (a b : Log) → Ok a ≡ Ok b → a ≡ b
-ok-same a b is = cc
+ok-same : (a b : Log) (r : Result Log StepError) → r ≡ Ok a → r ≡ Ok b → a ≡ b
+ok-same a b r first second = cc
 
 pub kept-taken : (config : Config) (log new : Log) (seat after : SeatView) (closed : Option Closing) (number : ℕ) (input : Input)
     → IsCell config (record { log = log; seat = seat; closed = closed }) → (closed ≡ Some closings.Memory → ⊥)
     → step_refused log input ≡ None → after ≡ after_draw seat number → step_of log number input ≡ Ok new
     → IsCell config (record { log = new; seat = after; closed = closed })
-kept-taken config log new seat after closed number input kept open free after_is taken =
+kept-taken config log new seat after closed number input kept awake free after_is taken =
     let cell : Cell = record { log = log; seat = seat; closed = closed } in
     let entry : Entry = entry_at log.config log.me (held_by log) number input in
-    let longer : new ≡ logged log entry = ok-same new (logged log entry) (sym taken ∙ free-step log number input free) in
-    kept-stepped config log new seat after closed entry kept open (spare-left config cell kept open (few-entries log input free)) longer after_is
+    let longer : new ≡ logged log entry = ok-same new (logged log entry) (step_of log number input) taken (free-step log number input free) in
+    kept-stepped config log new seat after closed entry kept awake (spare-left config cell kept awake (few-entries log input free)) longer after_is
 
 pub kept-refused : (config : Config) (log new : Log) (seat after : SeatView) (closed : Option Closing) (number : ℕ) (input : Input)
     (e : StepError) → IsCell config (record { log = log; seat = seat; closed = closed }) → (closed ≡ Some closings.Memory → ⊥)
     → step_refused log input ≡ None → after ≡ after_draw seat number → StepRefuses e log new (step_of log number input)
     → IsCell config (record { log = new; seat = after; closed = Some closings.Memory })
-kept-refused config log new seat after closed number input e kept open free after_is refused =
+kept-refused config log new seat after closed number input e kept awake free after_is refused =
     let cell : Cell = record { log = log; seat = seat; closed = closed } in
-    kept-starved config log new seat after closed number kept open (spare-left config cell kept open (few-entries log input free))
+    kept-starved config log new seat after closed number kept awake (spare-left config cell kept awake (few-entries log input free))
     (refused-same e log new (step_of log number input) refused) after_is
 
 pub drawn-behind : (config : Config) (cell : Cell) (number : ℕ) → IsCell config cell → (cell.closed ≡ Some closings.Memory → ⊥)
     → All (λ (k : ℕ). k < number) cell.seat.drawn → IsNumberBehind cell.log.entries number
-drawn-behind config cell number kept open above =
+drawn-behind config cell number kept awake above =
     number-behind number cell.log.entries
-    (subst (λ (l : List ℕ). All (λ (k : ℕ). k < number) l) (numbers-drawn config cell kept open) above)
+    (subst (λ (l : List ℕ). All (λ (k : ℕ). k < number) l) (numbers-drawn config cell kept awake) above)

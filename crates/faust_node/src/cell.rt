@@ -108,11 +108,13 @@ impl<T: Session> NodeCell<T> {
         }
         match self.step(input) {
             Ok(()) => None,
-            Err(StepError::OutOfMemory) => Some(Closing::Memory),
-            Err(_) => {
-                self.close(Closing::Full);
-                Some(Closing::Full)
-            }
+            Err(error) => match error {
+                StepError::OutOfMemory => Some(Closing::Memory),
+                _ => {
+                    self.close(Closing::Full);
+                    Some(Closing::Full)
+                }
+            },
         }
     }
 
