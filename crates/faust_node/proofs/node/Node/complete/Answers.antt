@@ -18,4 +18,4 @@ begin-requires-clause-asked g c =
 
 pub returns-then-is_idle-clause-receipt : goal.returns-then-is_idle-clause-receipt
 returns-then-is_idle-clause-receipt g c =
-    asked-receipt c.receipt.result c.args.input c.loop.input-1 c.in-Ok.op c.loop.invariant c.in-Ok.ensures.asked c.receipt.ensures.receipt
+    asked-receipt c.receipt.result c.args.input _ c.in-Ok.op c.loop.invariant c.in-Ok.ensures.asked c.receipt.ensures.receipt
