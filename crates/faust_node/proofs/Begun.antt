@@ -1,9 +1,7 @@
 -- Which inputs a cell takes, and what the client waits for once its user began.
-use Rattle.std.proofs.Common.{◌≡◌, ◌&&◌, ◌<◌, ◌≤◌, ℕ, Bool, true, false, cond, List, [], ◌∷◌, ◌++◌, length, Option, Some, None, Result, Ok, Err, nat_le, nat_lt, refl, sym, ap, ◌∙◌, subst, arith}
+use Rattle.std.proofs.Common.{◌≡◌, ◌≤◌, ℕ, Bool, true, false, cond, [], ◌∷◌, length, Option, Some, None, Result, Ok, Err, nat_le, nat_lt, refl, sym, ap, ◌∙◌, subst}
 use Rattle.std.proofs.lemmas.Bool.{and_from, le-leb, ltb-false}
-use Rattle.faust_types.specs.Clients.{IsClient}
 use Rattle.faust_types.specs.declared.arrival.Closing.{Closing}
-use Rattle.faust_types.specs.declared.arrival.Closing.TheVariants as closings
 use Rattle.faust_types.specs.declared.config.Config.{Config}
 use Rattle.faust_types.specs.declared.operation.Notice.{Notice}
 use Rattle.faust_types.specs.declared.operation.Operation.{Operation}
@@ -11,7 +9,7 @@ use Rattle.faust_agent.specs.State.{first_client, is_idle}
 use Rattle.faust_agent.specs.Table.{after, deed_of}
 use Rattle.faust_agent.specs.declared.client.Client.{Client}
 use Rattle.faust_agent.specs.declared.deed.Deed.TheVariants as deeds
-use Rattle.faust_record.specs.Entries.{entry_at, replayed, state_at}
+use Rattle.faust_record.specs.Entries.{entry_at, state_at}
 use Rattle.faust_record.specs.Journals.{Log}
 use Rattle.faust_record.specs.Refusals.{IsInput, is_register, logged, step_of}
 use Rattle.faust_record.specs.Runs.{arriving}
@@ -21,11 +19,10 @@ use Rattle.faust_record.specs.declared.entry.Input.TheVariants as inputs
 use Rattle.faust_record.specs.declared.errors.StepError.{StepError}
 use Rattle.faust_record.specs.declared.errors.StepError.TheVariants as steps
 use Rattle.faust_record.proofs.Own.{replayed-append}
-use Rattle.faust_node.specs.Cells.{Cell, held_by, refusal_of, refused_by, stop_of, stopped_by}
+use Rattle.faust_node.specs.Cells.{Cell, held_by, refused_by, stopped_by}
 use Rattle.faust_node.specs.Steps.{IsAsked, IsAskedFor, IsOutOfMemory, IsOutside, MayBegin, Refuses, asked_for, begin_refused_by, input_refused, order_of, step_refused}
-use Rattle.faust_node.specs.declared.error.NodeError.{NodeError}
 use Rattle.faust_node.specs.declared.error.NodeError.TheVariants as errors
-use Rattle.faust_node.proofs.Refused.{free-step, refused-step}
+use Rattle.faust_node.proofs.Refused.{free-step}
 
 -- a cell that refuses nothing
 pub record IsFree (notice : Option Notice) (closed : Option Closing) (count : ℕ) : Type 0 where

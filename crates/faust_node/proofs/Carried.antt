@@ -1,5 +1,5 @@
 -- What the entries of a journal send is carried by a link: no message is empty, and none has more than 16,384 bytes.
-use Rattle.std.proofs.Common.{◌≡◌, ◌+◌, ◌*◌, ◌≤◌, ℕ, zero, suc, List, [], ◌∷◌, ◌++◌, length, map, Option, Some, None, IfSome, slice_get, refl, sym, ap, ◌∙◌, subst, arith}
+use Rattle.std.proofs.Common.{◌≡◌, ℕ, zero, suc, List, [], ◌∷◌, map, Option, Some, None, IfSome, slice_get, refl, sym, subst, arith}
 use Rattle.std.specs.List.{AllByRecursion}
 use Rattle.faust_types.specs.Clients.{IsClient, IsClientCount}
 use Rattle.faust_types.specs.Ranges.{IsCommitFor, IsPeerMessageFor, IsSubmitFor}
@@ -8,7 +8,6 @@ use Rattle.faust_types.specs.declared.message.Commit.{Commit}
 use Rattle.faust_types.specs.declared.message.PeerMessage.{PeerMessage}
 use Rattle.faust_types.specs.declared.message.Submit.{Submit}
 use Rattle.faust_types.specs.declared.outcome.Outcome.{Outcome}
-use Rattle.faust_types.specs.declared.outcome.Post.{Post}
 use Rattle.faust_wire.specs.Grammar.{commit_bytes, peer_bytes, submit_bytes}
 use Rattle.faust_wire.proofs.Lengths.{length-commit, length-content-le, length-peer, submit_at_most}
 use Rattle.faust_agent.specs.State.{first_client}
@@ -66,9 +65,9 @@ deed-carried : (config : Config) (me : ℕ) (st : Client) (deed : Deed) → IsCl
     → IfSome (spelled_sent config.wire (sent_of config me st deed)) IsFrame
     × AreCarried (map (spelled_post config.wire) (posts_of config me st deed))
 deed-carried config me st deed count client kept fits = (
-      sent-carried config (sent_of config me st deed) count (sent-in_range config me st deed kept fits),
-      posts-carried config.wire config.clients (posts_of config me st deed) count (posts-in_range config me st deed client kept fits),
-    )
+  sent-carried config (sent_of config me st deed) count (sent-in_range config me st deed kept fits),
+  posts-carried config.wire config.clients (posts_of config me st deed) count (posts-in_range config me st deed client kept fits),
+)
 
 outcome-carried : (config : Config) (me : ℕ) (st : Client) (deed : Deed) → IsClientCount config.clients → IsClient config.clients me
     → IsClientOf config me st → IsDeedFor config me st deed

@@ -1,5 +1,5 @@
 -- The first entry from a place on that has something.
-use Rattle.std.proofs.Common.{◌≡◌, ◌+◌, ◌<◌, inl, inr, ◌≤◌, ℕ, zero, suc, List, [], ◌∷◌, ◌++◌, length, drop, Option, Some, None, option_to_list, slice_get, refl, sym, ap, ◌∙◌, subst, arith}
+use Rattle.std.proofs.Common.{◌≡◌, ◌+◌, ◌<◌, inl, inr, ◌≤◌, ℕ, zero, suc, List, [], ◌∷◌, ◌++◌, length, drop, Option, Some, None, option_to_list, slice_get, refl, sym, ap, ◌∙◌, arith}
 use Rattle.std.proofs.lemmas.Bool.{cases_eq}
 use Rattle.faust_types.specs.declared.operation.Answer.{Answer}
 use Rattle.faust_types.specs.declared.operation.Operation.{Operation}
@@ -7,7 +7,7 @@ use Rattle.faust_types.specs.declared.outcome.Post.{Post}
 use Rattle.faust_record.specs.Runs.{sent_in}
 use Rattle.faust_record.specs.declared.entry.Entry.{Entry}
 use Rattle.faust_node.specs.declared.receipt.Receipt.{Receipt}
-use Rattle.faust_node.specs.Receipts.{GivesReceipt, IsAnswerTo, IsGiven, IsReceiptOf, IsUnanswered, IsUnansweredUpTo}
+use Rattle.faust_node.specs.Receipts.{GivesReceipt, IsGiven, IsReceiptOf, IsUnanswered, IsUnansweredUpTo}
 use Rattle.faust_node.specs.Sending.{posts_in}
 
 drop-entry : (entries : List Entry) (k : ℕ) (e : Entry) → slice_get entries k ≡ Some e → drop k entries ≡ e ∷ drop (suc k) entries

@@ -1,5 +1,5 @@
 -- Each message of a list is carried by a link.
-use Rattle.std.proofs.Common.{◌≡◌, ◌<◌, ℕ, zero, suc, List, [], ◌∷◌, length, get_or, subst, sym, ap, arith}
+use Rattle.std.proofs.Common.{◌≡◌, ◌<◌, ℕ, zero, suc, List, [], ◌∷◌, length, get_or, subst, sym, arith}
 use Rattle.faust_types.specs.declared.outcome.Post.{Post}
 use Rattle.faust_link.specs.Frames.{IsFrame}
 use Rattle.faust_node.specs.Sending.{AreCarried}

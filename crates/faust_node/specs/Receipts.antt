@@ -1,9 +1,7 @@
 -- What a user gets for an operation: its answer as the journal has it, with the number of the entry that gave it. The
 -- promise on receipts rests on it.
-use Rattle.std.specs.Prelude.{◌≡◌, ◌<◌, ◌≤◌, ℕ, false, List, Option, Some, None, slice_get}
+use Rattle.std.specs.Prelude.{◌≡◌, ◌<◌, ◌≤◌, ℕ, List, Option, Some, None, slice_get}
 use Rattle.faust_types.specs.declared.operation.Answer.{Answer}
-
-use Rattle.faust_types.specs.declared.operation.Kind.TheVariants.{Write}
 use Rattle.faust_types.specs.declared.operation.Operation.{Operation}
 use Rattle.faust_record.specs.declared.entry.Entry.{Entry}
 use Rattle.faust_node.specs.Answers.{IsUserAnswer}

@@ -1,5 +1,5 @@
 -- What one step of a cell does. The calls that change a cell rest on it.
-use Rattle.std.specs.Prelude.{◌≡◌, ◌≢◌, ◌<◌, ◌≤◌, ◌⊎◌, ◌&&◌, ◌^◌, ℕ, Bool, true, false, List, [], length, All, Option, Some, None, Result, Ok, Err, nat_le, nat_lt, if◌then◌else◌}
+use Rattle.std.specs.Prelude.{◌≡◌, ◌<◌, ◌≤◌, ◌⊎◌, ◌^◌, ℕ, Bool, true, false, [], length, All, Option, Some, None, Result, Ok, Err, nat_le, nat_lt, if◌then◌else◌}
 use Rattle.faust_types.specs.Clients.{IsClient}
 use Rattle.faust_types.specs.declared.arrival.Closing.{Closing}
 use Rattle.faust_types.specs.declared.arrival.Closing.TheVariants as closings
@@ -13,7 +13,7 @@ use Rattle.faust_agent.specs.Deeds.{read_of, write_of}
 use Rattle.faust_agent.specs.Table.{operation_of}
 use Rattle.faust_agent.specs.declared.deed.Order.{Order}
 use Rattle.faust_agent.specs.declared.client.Client.{Client}
-use Rattle.faust_ticket.specs.Holders.{SeatView, after_draw}
+use Rattle.faust_ticket.specs.Holders.{after_draw}
 use Rattle.faust_record.specs.Journals.{Log}
 use Rattle.faust_record.specs.Refusals.{is_register, step_of}
 use Rattle.faust_record.specs.declared.entry.Input.{Input}

@@ -15,9 +15,7 @@ use crate::session::Session;
 use faust_agent::Agent;
 use faust_record::{Input, Journal, MAX_ENTRIES, StepError};
 use faust_ticket::Seat;
-use faust_types::{
-    Closing, Config, Kind, MAX_VALUE_LEN, OpName, Operation, OutOfMemory,
-};
+use faust_types::{Closing, Config, Kind, MAX_VALUE_LEN, OpName, Operation, OutOfMemory};
 use std::alloc::Global;
 use std::marker::Model;
 

@@ -207,7 +207,11 @@ fn read_in_vain<T: Session + Send + Sync, R: Threads + Wait + Sync>(
     let mut root = blank.open::<T>();
     let node = Node::new(alloc, config, 1, root.split()?)?;
     let shared = &node;
-    let (read, ()) = thread::join(rt, move || shared.read(rt, 2).err(), move || shared.close(rt));
+    let (read, ()) = thread::join(
+        rt,
+        move || shared.read(rt, 2).err(),
+        move || shared.close(rt),
+    );
     Ok(read)
 }
 

@@ -1,4 +1,4 @@
-use Rattle.std.proofs.Common.{◌≡◌, ◌+◌, ◌<◌, ◌++◌, ℕ, List, [], length, drop, Some, slice_get, refl, sym, ap, ◌∙◌, subst, arith}
+use Rattle.std.proofs.Common.{◌≡◌, ◌+◌, ◌<◌, ◌++◌, ℕ, List, length, drop, Some, slice_get, refl, sym, ap, ◌∙◌, subst, arith}
 use Rattle.faust_types.specs.declared.outcome.Post.{Post}
 use Rattle.faust_record.specs.Journals.{Log}
 use Rattle.faust_record.specs.declared.entry.Entry.{Entry}

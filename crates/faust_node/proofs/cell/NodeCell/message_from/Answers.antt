@@ -1,4 +1,4 @@
-use Rattle.std.proofs.Common.{◌≡◌, ◌+◌, ◌<◌, ℕ, List, length, Option, Some, None, IfSome, slice_get, refl, sym, ap, ◌∙◌, subst, arith}
+use Rattle.std.proofs.Common.{◌≡◌, ◌+◌, ◌<◌, ℕ, List, length, Option, Some, IfSome, slice_get, refl, sym, ap, ◌∙◌, subst, arith}
 use Rattle.faust_link.specs.Frames.{IsFrame}
 use Rattle.faust_record.specs.Journals.{Log}
 use Rattle.faust_record.specs.declared.entry.Entry.{Entry}

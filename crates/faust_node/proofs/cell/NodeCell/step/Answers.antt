@@ -1,5 +1,4 @@
 use Rattle.std.proofs.Common.{◌≡◌, None, Some, refl, sym, ap, ◌∙◌}
-use Rattle.faust_types.specs.declared.arrival.Closing.TheVariants as closings
 use Rattle.faust_node.specs.Cells.{Cell}
 use Rattle.faust_node.specs.Steps.{step_refused}
 use Rattle.faust_node.proofs.Kept.{drawn-behind, kept-refused, kept-taken}

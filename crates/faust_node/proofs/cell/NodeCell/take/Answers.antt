@@ -1,4 +1,4 @@
-use Rattle.std.proofs.Common.{◌≡◌, None, sym, ap, ◌∙◌}
+use Rattle.std.proofs.Common.{sym, ap, ◌∙◌}
 use Rattle.faust_types.specs.declared.arrival.Closing.TheVariants as closings
 use Rattle.faust_node.specs.Cells.{Cell, closed_by, held_by}
 use Rattle.faust_node.proofs.Begun.{outside-refused, stop-open}

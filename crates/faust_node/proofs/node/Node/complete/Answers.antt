@@ -1,4 +1,4 @@
-use Rattle.std.proofs.Common.{◌≡◌, Result, Ok, Err, IfOk, subst, sym, ◌∙◌}
+use Rattle.std.proofs.Common.{◌≡◌, Result, Ok, Err, IfOk, subst, sym}
 use Rattle.faust_types.specs.declared.operation.Operation.{Operation}
 use Rattle.faust_record.specs.declared.entry.Input.{Input}
 use Rattle.faust_node.specs.declared.error.NodeError.{NodeError}
