@@ -1,0 +1,5 @@
+pub mod Told
+pub mod UserOperations
+pub mod Receipts
+pub mod Lines
+pub mod Comparing

@@ -1,0 +1,1 @@
+//! What the definitions of `specs/` say together. Each function has an empty body, and its contract is the law.
