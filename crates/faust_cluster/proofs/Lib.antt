@@ -6,3 +6,9 @@ pub mod Ordered
 pub mod Told
 -- one pass over a record compares receipts
 pub mod Passing
+-- the line of a completed operation tells all of it
+pub mod Printed
+-- no line comes exactly where every receipt is a completion
+pub mod Right
+-- which user is short
+pub mod Stopping

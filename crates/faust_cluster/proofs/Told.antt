@@ -38,7 +38,7 @@ of-entry entry own true (Some answer) rest is same =
     ∙ sym (ap (λ (a : Option Answer). user_finished (option_to_list (option_map (λ (x : Answer). record { answer = x; number = entry.number }) a)
     ++ finished_among own)) is)
 
-told-own : (i : ℕ) (entries : List Entry) → told_among i entries ≡ user_finished (finished_among (entries_of i entries))
+pub told-own : (i : ℕ) (entries : List Entry) → told_among i entries ≡ user_finished (finished_among (entries_of i entries))
 told-own i [] = refl
 told-own i (entry ∷ rest) =
     of-entry entry (entries_of i rest) (entry.client == i) entry.outcome.answer (told_among i rest) refl (told-own i rest)

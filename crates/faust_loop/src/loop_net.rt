@@ -1,7 +1,5 @@
 ghost use Rattle.std.specs.Prelude.{◌≡◌, IfOk};
-ghost use Rattle.faust_io.specs.Faults.{CountsFault};
-ghost use Rattle.faust_link.specs.Counts.{CountsBack, CountsLink};
-ghost use Rattle.faust_link.specs.declared.answers.LinkError.TheVariants as errors;
+ghost use Rattle.faust_link.specs.Counts.{CountsBack, CountsError};
 
 use crate::loop_in::LoopIn;
 use crate::loop_out::LoopOut;
@@ -58,7 +56,7 @@ impl<R> LoopNet<R> {
 
     /// Counts a call that failed, unless there was no memory.
     fn fail(&mut self, error: io::Error) -> LinkError
-        ensures { CountsLink (Err result) self.old.faults self.new.faults }
+        ensures { CountsError result self.old.faults self.new.faults }
     {
         if error.kind() == io::ErrorKind::OutOfMemory {
             return LinkError::OutOfMemory;

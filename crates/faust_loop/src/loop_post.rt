@@ -1,7 +1,5 @@
 ghost use Rattle.std.specs.Prelude.{◌≡◌, ◌≤◌, ◌<◌, length, vec_len, None, Ok, IfOk, true};
 ghost use Rattle.faust_io.specs.Faults.{Counts};
-ghost use Rattle.faust_link.specs.Counts.{CountsLink};
-ghost use Rattle.faust_link.specs.Frames.{IsFrame};
 
 use faust_io::Failed;
 use faust_link::{Got, LinkError, PostIn, PostOut};
@@ -51,29 +49,21 @@ impl LoopPostIn {
         self.faults
     }
 
-    /// Reads a datagram into the buffer, unless one waits there. It answers whether one does. One of another length
-    /// than 1 to 16,384 bytes is passed over.
+    /// Reads a datagram into the buffer, unless one waits there. It answers whether one does.
     fn hold_datagram(&mut self) -> Result<bool, Failed>
         ensures faults { Counts result self.old.faults self.new.faults }
         ensures held { result ≡ Ok true → 0 < self.new.held }
     {
-        for _ in 0..u64::MAX {
-            if self.held > 0 {
-                return Ok(true);
-            }
-            match receive(&self.socket, self.buffer.as_mut_slice()) {
-                Ok(len) => {
-                    if len <= MAX_MESSAGE_LEN {
-                        self.held = len;
-                    }
+        if self.held == 0 {
+            match next_datagram(&self.socket, self.buffer.as_mut_slice()) {
+                Ok(len) => self.held = len,
+                Err(Failed) => {
+                    self.faults = self.faults.saturating_add(1);
+                    return Err(Failed);
                 }
-                Err(ErrorKind::WouldBlock | ErrorKind::TimedOut) => return Ok(false),
-                Err(ErrorKind::Interrupted) => {}
-                Err(_) => break,
             }
         }
-        self.faults = self.faults.saturating_add(1);
-        Err(Failed)
+        Ok(self.held > 0)
     }
 }
 
@@ -92,6 +82,26 @@ impl PostIn for LoopPostIn {
         self.held = 0;
         Ok(Got::Frame)
     }
+}
+
+/// How many bytes the next datagram has, which then stands in the buffer: 0 where none stood there. One of another length
+/// than 1 to 16,384 bytes is passed over.
+fn next_datagram(socket: &UdpSocket, buffer: &mut [u8]) -> Result<usize, Failed>
+    ensures { IfOk result (λ len. len ≤ 16384) }
+{
+    for _ in 0..u64::MAX {
+        match receive(socket, buffer) {
+            Ok(len) => {
+                if 0 < len && len <= MAX_MESSAGE_LEN {
+                    return Ok(len);
+                }
+            }
+            Err(ErrorKind::WouldBlock | ErrorKind::TimedOut) => return Ok(0),
+            Err(ErrorKind::Interrupted) => {}
+            Err(_) => return Err(Failed),
+        }
+    }
+    Err(Failed)
 }
 
 /// One read of a socket: how many bytes of the buffer it filled.
