@@ -7,11 +7,10 @@ use crate::loop_post::{LoopPostIn, LoopPostOut};
 use faust_io::StdSource;
 use faust_link::{FrameIn, FrameOut, FrameReader, LinkError, Net, PostIn, PostOut};
 use std::alloc::Global;
-use std::io;
 use std::io::BufReader;
-use std::net;
 use std::net::{Ipv4Addr, SocketAddr, SocketAddrV4, TcpListener, TcpStream, UdpSocket};
 use std::time::Duration;
+use std::{io, net};
 
 /// How many milliseconds a look for a datagram waits.
 const LOOK: u64 = 5;
@@ -84,7 +83,11 @@ fn not_listening() -> io::Error {
 }
 
 /// Opens the sockets for n clients.
-fn open<R: net::Net<Listener = TcpListener, Stream = TcpStream>>(rt: &R, alloc: Global, n: u8) -> io::Result<Sockets> {
+fn open<R: net::Net<Listener = TcpListener, Stream = TcpStream>>(
+    rt: &R,
+    alloc: Global,
+    n: u8,
+) -> io::Result<Sockets> {
     let listener = rt.bind(loopback())?;
     let address = listener.local_addr()?;
     let mut posts = Vec::new(alloc);
@@ -144,11 +147,7 @@ fn accept(alloc: Global, sockets: &Option<Sockets>) -> io::Result<(LoopIn, LoopO
     }
 }
 
-fn post(
-    alloc: Global,
-    sockets: &Option<Sockets>,
-    i: u8,
-) -> io::Result<(LoopPostIn, LoopPostOut)>
+fn post(alloc: Global, sockets: &Option<Sockets>, i: u8) -> io::Result<(LoopPostIn, LoopPostOut)>
     ensures in_fresh { IfOk result (λ ends. ⟦<LoopPostIn as PostIn>⟧.faults ends.0 ≡ 0) }
     ensures out_fresh { IfOk result (λ ends. ⟦<LoopPostOut as PostOut>⟧.faults ends.1 ≡ 0) }
 {
