@@ -23,7 +23,7 @@ use Rattle.faust_record.specs.Entries.{Obeys, state_at}
 use Rattle.faust_record.specs.Operations.{Finished, Started, finished_among, finished_in, order_in, started_among, started_in}
 use Rattle.faust_record.specs.Runs.{IsRun, entries_of}
 use Rattle.faust_record.specs.declared.entry.Entry.{Entry}
-use Rattle.faust_cluster.specs.Told.{IsPlain, IsWriteAnswer}
+use Rattle.faust_cluster.specs.Answers.{IsPlain, IsWriteAnswer}
 use Rattle.faust_cluster.specs.UserOperations.{name_by}
 use Rattle.faust_cluster.proofs.Changes.{Change, IsAnswerTo, IsChanged, closes, entry-changes, opens, stays}
 
@@ -48,7 +48,7 @@ Awaits me t st (started ∷ next ∷ rest) = ⊥
 pub record IsToldOf (n me t : ℕ) (started : Started) (finished : Finished) : Type 0 where
   pub same_name : finished.answer.op.name ≡ name_by me t
   pub same_dummy : finished.answer.op.dummy ≡ started.order.dummy
-  pub plain : IsPlain finished.answer.op.kind finished.answer
+  pub plain : IsPlain finished.answer
   pub answer : IsAnswerTo n finished.answer
 
 -- Operations, numbered from t on, complete in the order in which they began.
@@ -100,12 +100,6 @@ opened n me t st now number (started ∷ next ∷ rest) began ended begun none w
 some-same : (a b : Operation) → Some a ≡ Some b → a ≡ b
 some-same a b h = cc
 
-plain-answer : (me : ℕ) (answer : Answer) (kind : Kind) → answer.op.name.client ≡ me → (kind ≡ Write → answer.op.register ≡ me)
-    → (kind ≡ Write → answer.value ≡ None) → (kind ≡ Write → answer.asof ≡ 0) → IsPlain kind answer
-plain-answer me answer Write named own no_value no_asof =
-    record { own_register = own refl ∙ sym named; no_value = no_value refl; no_asof = no_asof refl }
-plain-answer me answer Read named own no_value no_asof = tt
-
 closed : (n me t : ℕ) (st now : Client) (number : ℕ) (pending began : List Started) (ended : List Finished) (given : Answer)
     → st.waiting ≡ Some given.op → now.waiting ≡ None → completed_count me now ≡ completed_count me st + 1 → IsAnswerTo n given
     → completed_count me st + 1 ≡ t → Awaits me t st pending → Later n me now began ended
@@ -118,8 +112,11 @@ closed n me t st now number (started ∷ []) began ended given was waits more an
     (record {
       same_name = begun.same_name;
       same_dummy = begun.same_dummy;
-      plain = plain-answer me given given.op.kind (ap (λ (name : OpName). name.client) begun.same_name) begun.own_register
-          answer.no_value answer.no_asof;
+      plain = λ write. record {
+        own_register = begun.own_register write ∙ sym (ap (λ (name : OpName). name.client) begun.same_name);
+        no_value = answer.no_value write;
+        no_asof = answer.no_asof write;
+      };
       answer = answer;
     }, later (suc t) [] (omega (arith, more, counted)) waits)
 closed n me t st now number (started ∷ next ∷ rest) began ended given was waits more answer counted awaits later = absurd awaits
@@ -130,16 +127,19 @@ along-step : (n me t : ℕ) (st now : Client) (number : ℕ) (order : Option Ord
     → AreTold n me t (pending ++ (option_to_list (option_map (start_of number) order) ++ began))
     (option_to_list (option_map (end_of number) answer) ++ ended)
 along-step n me t st now number order answer pending began ended (stays none silent same still) counted awaits later =
-    subst (λ (o : Option Order). AreTold n me t (pending ++ (option_to_list (option_map (start_of number) o) ++ began)) _) (sym none)
+    subst (λ (o : Option Order). AreTold n me t (pending ++ (option_to_list (option_map (start_of number) o) ++ began))
+    (option_to_list (option_map (end_of number) answer) ++ ended)) (sym none)
     (subst (λ (a : Option Answer). AreTold n me t (pending ++ began) (option_to_list (option_map (end_of number) a) ++ ended)) (sym silent)
     (later t pending (ap (λ (k : ℕ). k + 1) still ∙ counted) (awaits-same me t st now pending same awaits)))
 along-step n me t st now number order answer pending began ended (opens begun is silent none waits same own) counted awaits later =
-    subst (λ (o : Option Order). AreTold n me t (pending ++ (option_to_list (option_map (start_of number) o) ++ began)) _) (sym is)
+    subst (λ (o : Option Order). AreTold n me t (pending ++ (option_to_list (option_map (start_of number) o) ++ began))
+    (option_to_list (option_map (end_of number) answer) ++ ended)) (sym is)
     (subst (λ (a : Option Answer). AreTold n me t (pending ++ (start_of number begun ∷ began))
     (option_to_list (option_map (end_of number) a) ++ ended)) (sym silent)
     (opened n me t st now number pending began ended begun none waits same own counted awaits later))
 along-step n me t st now number order answer pending began ended (closes given none is was waits more fits) counted awaits later =
-    subst (λ (o : Option Order). AreTold n me t (pending ++ (option_to_list (option_map (start_of number) o) ++ began)) _) (sym none)
+    subst (λ (o : Option Order). AreTold n me t (pending ++ (option_to_list (option_map (start_of number) o) ++ began))
+    (option_to_list (option_map (end_of number) answer) ++ ended)) (sym none)
     (subst (λ (a : Option Answer). AreTold n me t (pending ++ began) (option_to_list (option_map (end_of number) a) ++ ended)) (sym is)
     (closed n me t st now number pending began ended given was waits more fits counted awaits later))
 

@@ -1,6 +1,6 @@
 -- One pass over a record compares the receipts of a user with what it completes.
-use Rattle.std.proofs.Common.{◌≡◌, ℕ, ◌+◌, ◌≤◌, ◌<◌, suc, Bool, true, false, cond, List, [], ◌∷◌, ◌++◌, length, drop, get_or, Option, Some, None, option_map, option_to_list, refl, sym, ap, ◌∙◌, subst, inl, inr, arith, length-append}
-use Rattle.std.specs.Prelude.{◌==◌, codes, slice_get}
+use Rattle.std.proofs.Common.{◌≡◌, ℕ, ◌+◌, ◌≤◌, ◌<◌, zero, suc, Bool, true, false, cond, List, [], ◌∷◌, ◌++◌, length, drop, get_or, Option, Some, None, option_map, option_to_list, refl, sym, ap, ◌∙◌, subst, inl, inr, arith, length-append}
+use Rattle.std.specs.Prelude.{◌==◌, codes, is_some, slice_get}
 use Rattle.std.specs.Fmt.{decimal}
 use Rattle.std.specs.Str.{bytes_eq}
 use Rattle.std.proofs.Math.Seq.{drop-nil}
@@ -46,7 +46,7 @@ longer number answer =
     let all : length tail ≡ 4 + length (32 ∷ (name ++ (32 ∷ rest))) = length-append (codes "done") (32 ∷ (name ++ (32 ∷ rest))) in
     omega (arith, whole, all)
 
-not-none : (number : ℕ) (answer : Answer) → bytes_eq (done_line number answer) (codes "none") ≡ false
+pub not-none : (number : ℕ) (answer : Answer) → bytes_eq (done_line number answer) (codes "none") ≡ false
 not-none number answer =
     false_from_ne_true (bytes_eq (done_line number answer) (codes "none"))
     (λ same. let is : done_line number answer ≡ codes "none" = (bytes_eq-Decides (done_line number answer) (codes "none")).0 same in
@@ -132,7 +132,7 @@ user-wrong config entries all k receipts d line text run counted within is due s
     ∙ ap (λ (o : Option (List ℕ)). or_later o (first_differing_of entries ((k + 1) + 1) (drop (k + 1) all))) (sym due ∙ some))
 
 pub no-more : (entries : List Entry) (i k : ℕ) (all : List (List Receipt)) → length all ≤ k → first_differing_of entries i (drop k all) ≡ None
-no-more entries i k all past = ap (first_differing_of entries i) (drop_all all k past)
+no-more entries i k all past = ap (first_differing_of entries i) (drop_all k all past)
 
 -- one receipt of a user
 pub entry-silent : (i : ℕ) (entries : List Entry) (q : ℕ) (entry d : Entry) (receipts : List Receipt) → q < length entries
@@ -183,12 +183,61 @@ receipt-wrong i entries q entry d finished told next receipt e line text within 
     ∙ cond-some _ _ _ _ (sym due ∙ wrong))
 
 pub all-told : (told : List Receipt) (next : ℕ) (due : List Finished) → length told ≤ next → first_difference (drop next told) due ≡ None
-all-told told next due past = ap (λ (l : List Receipt). first_difference l due) (drop_all told next past)
+all-told told next due past = ap (λ (l : List Receipt). first_difference l due) (drop_all next told past)
 
 pub none-due : (i : ℕ) (entries : List Entry) (q : ℕ) (told : List Receipt) (next : ℕ) (receipt e : Receipt) → length entries ≤ q
     → next < length told → receipt ≡ get_or told next e
     → first_difference (drop next told) (told_among i (drop q entries)) ≡ Some (differs_line receipt None)
 none-due i entries q told next receipt e past inside at =
-    ap (λ (l : List Entry). first_difference (drop next told) (told_among i l)) (drop_all entries q past)
+    ap (λ (l : List Entry). first_difference (drop next told) (told_among i l)) (drop_all q entries past)
     ∙ ap (λ (l : List Receipt). first_difference l [])
     (drop_more told next e inside ∙ ap (λ (r : Receipt). r ∷ drop (next + 1) told) (sym at))
+
+-- whether there is a line
+none-line : (o : Option (List ℕ)) → is_some o ≡ false → o ≡ None
+none-line None h = refl
+none-line (Some x) h = absurd (cc)
+
+pub receipt-named : (i : ℕ) (entries : List Entry) (q : ℕ) (entry d : Entry) (finished : Finished) (told : List Receipt) (next : ℕ)
+    (receipt e : Receipt) (line : Option (List ℕ)) → q < length entries → entry ≡ get_or entries q d → told_in i entry ≡ Some finished
+    → next < length told → receipt ≡ get_or told next e → line ≡ difference receipt finished → is_some line ≡ true
+    → line ≡ first_difference (drop next told) (told_among i (drop q entries))
+receipt-named i entries q entry d finished told next receipt e None within is some inside at due named = absurd (cc)
+receipt-named i entries q entry d finished told next receipt e (Some text) within is some inside at due named =
+    receipt-wrong i entries q entry d finished told next receipt e (Some text) text within is some inside at due refl
+
+pub receipt-passed : (i : ℕ) (entries : List Entry) (q : ℕ) (entry d : Entry) (finished : Finished) (told : List Receipt) (next now : ℕ)
+    (receipt e : Receipt) (line : Option (List ℕ)) → q < length entries → entry ≡ get_or entries q d → told_in i entry ≡ Some finished
+    → next < length told → receipt ≡ get_or told next e → line ≡ difference receipt finished → is_some line ≡ false → now ≡ next + 1
+    → first_difference told (told_among i entries) ≡ first_difference (drop next told) (told_among i (drop q entries))
+    → (now ≤ length told) × (first_difference told (told_among i entries)
+    ≡ first_difference (drop now told) (told_among i (drop (q + 1) entries)))
+receipt-passed i entries q entry d finished told next now receipt e line within is some inside at due none more so_far =
+    (omega (arith, more, inside),
+    so_far ∙ receipt-right i entries q entry d finished told next receipt e line within is some inside at due (none-line line none)
+    ∙ ap (λ (k : ℕ). first_difference (drop k told) (told_among i (drop (q + 1) entries))) (sym more))
+
+pub entry-passed : (i : ℕ) (entries : List Entry) (q : ℕ) (entry d : Entry) (told : List Receipt) (next now : ℕ)
+    → q < length entries → entry ≡ get_or entries q d → told_in i entry ≡ None → next ≤ length told → now ≡ next
+    → first_difference told (told_among i entries) ≡ first_difference (drop next told) (told_among i (drop q entries))
+    → (now ≤ length told) × (first_difference told (told_among i entries)
+    ≡ first_difference (drop now told) (told_among i (drop (q + 1) entries)))
+entry-passed i entries q entry d told next now within is none few same so_far =
+    (omega (arith, same, few),
+    so_far ∙ entry-silent i entries q entry d (drop next told) within is none
+    ∙ ap (λ (k : ℕ). first_difference (drop k told) (told_among i (drop (q + 1) entries))) (sym same))
+
+pub user-named : (config : Config) (entries : List Entry) (all : List (List Receipt)) (k : ℕ) (receipts d : List Receipt)
+    (line : Option (List ℕ)) → IsRun config entries → length all ≡ config.clients → k < length all → receipts ≡ get_or all k d
+    → line ≡ first_difference receipts (told_among (k + 1) entries) → is_some line ≡ true
+    → line ≡ first_differing_of entries (k + 1) (drop k all)
+user-named config entries all k receipts d None run counted within is due named = absurd (cc)
+user-named config entries all k receipts d (Some text) run counted within is due named =
+    user-wrong config entries all k receipts d (Some text) text run counted within is due refl
+
+pub user-passed : (config : Config) (entries : List Entry) (all : List (List Receipt)) (k : ℕ) (receipts d : List Receipt)
+    (line : Option (List ℕ)) → IsRun config entries → length all ≡ config.clients → k < length all → receipts ≡ get_or all k d
+    → line ≡ first_difference receipts (told_among (k + 1) entries) → is_some line ≡ false
+    → first_differing_of entries (k + 1) (drop k all) ≡ first_differing_of entries ((k + 1) + 1) (drop (k + 1) all)
+user-passed config entries all k receipts d line run counted within is due none =
+    user-right config entries all k receipts d line run counted within is due (none-line line none)

@@ -16,7 +16,7 @@ use Rattle.hex.specs.Hex.{encode_lower}
 use Rattle.faust_text.proofs.NumberLaws.{digits_at, is_number-decimal, number_of-decimal}
 use Rattle.faust_text.proofs.ValueLaws.{printed_again}
 use Rattle.faust_report.specs.Text.{answer_text, done_line, name_text, register_text}
-use Rattle.faust_cluster.specs.Told.{IsPlain, IsUserAnswer}
+use Rattle.faust_cluster.specs.Answers.{IsPlain, IsUserAnswer}
 use Rattle.faust_cluster.specs.Receipts.{IsPrintable}
 
 -- bytes without a byte
@@ -95,15 +95,18 @@ register-one x y one other h = number-one x y one other (tail-one 88 88 (decimal
 some-value : (v w : List ℕ) → (let left : Option (List ℕ) = Some v in left ≡ Some w) → v ≡ w
 some-value v w h = cc
 
-not-printed-none : (value : List ℕ) (plain : Bool)
-    → codes "none" ≡ cond plain (34 ∷ (value ++ 34 ∷ [])) (48 ∷ 120 ∷ encode_lower value) → ⊥
-not-printed-none value true h = cc
-not-printed-none value false h = cc
+heads-differ : (a b : ℕ) (x y : List ℕ) → (a == b) ≡ false → ◌≡◌ {A = List ℕ} (a ∷ x) (b ∷ y) → ⊥
+heads-differ a b x y differ h = both_ways (a == b) differ (eq-eqb a b (head-one a b x y h))
+
+not-printed-none : (quoted digits : List ℕ) (plain : Bool)
+    → ◌≡◌ {A = List ℕ} (110 ∷ 111 ∷ 110 ∷ 101 ∷ []) (cond plain (34 ∷ quoted) (48 ∷ digits)) → ⊥
+not-printed-none quoted digits true h = heads-differ 110 34 _ quoted refl h
+not-printed-none quoted digits false h = heads-differ 110 48 _ digits refl h
 
 value-one : (v w : Option (List ℕ)) → IfSome v IsValue → IfSome w IsValue → value_text v ≡ value_text w → v ≡ w
 value-one None None one other h = refl
-value-one None (Some w) one other h = absurd (not-printed-none w (list_all is_plain w) h)
-value-one (Some v) None one other h = absurd (not-printed-none v (list_all is_plain v) (sym h))
+value-one None (Some w) one other h = absurd (not-printed-none (w ++ 34 ∷ []) (120 ∷ encode_lower w) (list_all is_plain w) h)
+value-one (Some v) None one other h = absurd (not-printed-none (v ++ 34 ∷ []) (120 ∷ encode_lower v) (list_all is_plain v) (sym h))
 value-one (Some v) (Some w) one other h =
     sym (printed_again 4096 v one.bytes_each one.sized) ∙ ap (value_of 4096) h ∙ printed_again 4096 w other.bytes_each other.sized
 
@@ -137,7 +140,7 @@ register-without x fits = (refl, number-without 32 x (omega arith) fits)
 abbrev asof_text : ℕ → List ℕ
 asof_text asof = codes "asof" ++ (32 ∷ decimal asof)
 
-kinds-one : (a b : Answer) (kind other : Kind) → a.op.kind ≡ kind → b.op.kind ≡ other → IsPlain kind a → IsPlain other b
+kinds-one : (a b : Answer) (kind other : Kind) → a.op.kind ≡ kind → b.op.kind ≡ other → IsPlain a → IsPlain b
     → (n m : ℕ) → IsPrintable n a → IsPrintable m b → answer_text kind a ≡ answer_text other b → IsSameBut a b
 kinds-one a b Write Write is also one two n m fits fits_too h =
     let both = front-one 32 (codes "write") (codes "write") (register_text a.op.register) (register_text b.op.register)
@@ -145,8 +148,8 @@ kinds-one a b Write Write is also one two n m fits fits_too h =
     record {
       same_kind = is ∙ sym also;
       same_register = register-one a.op.register b.op.register fits.register_fits fits_too.register_fits both.rest;
-      same_value = one.no_value ∙ sym two.no_value;
-      same_asof = one.no_asof ∙ sym two.no_asof;
+      same_value = (one is).no_value ∙ sym (two also).no_value;
+      same_asof = (one is).no_asof ∙ sym (two also).no_asof;
     }
 kinds-one a b Write Read is also one two n m fits fits_too h =
     absurd (words-differ (front-one 32 (codes "write") (codes "read") (register_text a.op.register)

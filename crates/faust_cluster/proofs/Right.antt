@@ -15,7 +15,7 @@ use Rattle.faust_report.specs.Text.{done_line}
 use Rattle.faust_cluster.specs.Comparing.{told_among}
 use Rattle.faust_cluster.specs.Lines.{differs_line, due_line, first_differing, first_differing_of, or_later, told_line}
 use Rattle.faust_cluster.specs.Receipts.{AreAllCompletions, AreAllPrintable, AreCompletions, ArePrintable, IsCompletion, IsPrintable}
-use Rattle.faust_cluster.specs.Told.{IsUserAnswer}
+use Rattle.faust_cluster.specs.Answers.{IsUserAnswer}
 use Rattle.faust_cluster.specs.UserOperations.{name_by, user_completion}
 use Rattle.faust_cluster.specs.declared.receipt.Receipt.{Receipt}
 use Rattle.faust_cluster.proofs.Ordered.{AreTold, IsToldOf, told-in-run}

@@ -1,4 +1,4 @@
-pub mod Told
+pub mod Answers
 pub mod UserOperations
 pub mod Receipts
 pub mod Lines

@@ -47,12 +47,15 @@ fn first_difference(
             return Ok(None);
         }
         let entry = entry_at(rec, q);
-        if let Some(answer) = told_in(entry, client) {
-            let line = difference(alloc, &told[next], entry.number, answer)?;
-            if line.is_some() {
-                return Ok(line);
+        match told_in(entry, client) {
+            None => {}
+            Some(answer) => {
+                let line = difference(alloc, &told[next], entry.number, answer)?;
+                if line.is_some() {
+                    return Ok(line);
+                }
+                next += 1;
             }
-            next += 1;
         }
     }
     if next == told.len() {

@@ -9,7 +9,6 @@ ghost use Rattle.faust_cluster.specs.declared.receipt.Receipt.{Receipt};
 
 /// No line says that a receipt differs exactly where each receipt, of a run's users, is the completion of the operation
 /// that its user began at that place: its number and its answer are those of the entry that completed it.
-#[tactic(auto, using(crate::proofs::Right::receipts_are_right))]
 pub fn no_receipt_differs_where_all_are_completions()
     ensures { (config : Config) (entries : List Entry) (receipts : List (List Receipt)) → IsRun config entries →
         length entries < 2 ^ 64 → length receipts ≡ config.clients → AreAllPrintable receipts →

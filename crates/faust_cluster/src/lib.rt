@@ -4,7 +4,7 @@
 //! in the record says why.
 //!
 //! `specs/UserOperations.antt` comes first: which operations of a record are a user's, and when each completed.
-//! `specs/Told.antt` says what a receipt may say, and `specs/Receipts.antt` that receipts are completions;
+//! `specs/Answers.antt` says which answers a user may get, and `specs/Receipts.antt` that receipts are completions;
 //! `specs/Lines.antt` has the lines that name what is wrong. `laws` says that no line comes exactly where every receipt
 //! is right.
 //!

@@ -1,6 +1,6 @@
 // What users were told.
 ghost use Rattle.std.specs.Prelude.{◌≡◌};
-ghost use Rattle.faust_cluster.specs.Told.{IsUserAnswer};
+ghost use Rattle.faust_cluster.specs.Answers.{IsUserAnswer};
 
 use faust_types::{Answer, Sequence};
 
