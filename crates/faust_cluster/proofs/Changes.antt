@@ -177,8 +177,10 @@ entry-changes config me st entry count client kept step own =
     let answer : entry.outcome.answer ≡ answer_of deed = outcome-answer config me st entry.input entry.outcome step.outcome_is in
     let change = deed-changes config me st event deed client kept fits tells does (λ order came. own-order config me entry.input order came) in
     record {
-      change = subst (λ (now : Client). Change config.clients me st now _ _) (sym here)
-          (subst (λ (o : Option Order). Change config.clients me st _ o _) (sym order)
-          (subst (λ (a : Option Answer). Change config.clients me st _ _ a) (sym answer) change));
+      change = subst (λ (now : Client). Change config.clients me st now (order_in entry.client entry.input entry.outcome) entry.outcome.answer)
+          (sym here)
+          (subst (λ (o : Option Order). Change config.clients me st (after config me st deed) o entry.outcome.answer) (sym order)
+          (subst (λ (a : Option Answer). Change config.clients me st (after config me st deed) (begun_order config me st deed) a)
+          (sym answer) change));
       kept = subst (IsClientOf config me) (sym here) (kept-after config me st deed client kept does);
     }
