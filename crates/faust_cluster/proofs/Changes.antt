@@ -1,7 +1,6 @@
 -- What one entry of a client changes: an operation begins, the pending one completes, or neither.
-use Rattle.std.proofs.Common.{◌≡◌, ℕ, ◌+◌, ◌-◌, ◌^◌, ◌<◌, Bool, true, false, cond, List, [], ◌∷◌, Option, Some, None, IfSome, refl, sym, ap, ◌∙◌, subst, inl, inr, arith}
-use Rattle.std.proofs.lemmas.Bool.{cases_eq, cond-true, cond-false}
-use Rattle.faust_types.specs.Bytes.{AreBytes}
+use Rattle.std.proofs.Common.{◌≡◌, ℕ, ◌+◌, ◌-◌, ◌^◌, ◌<◌, Bool, true, false, cond, Option, Some, None, IfSome, refl, sym, ap, ◌∙◌, subst, arith}
+use Rattle.std.proofs.lemmas.Bool.{cond-true}
 use Rattle.faust_types.specs.Clients.{IsClient, IsClientCount}
 use Rattle.faust_types.specs.Ranges.{IsReplyFor, IsValue}
 use Rattle.faust_types.specs.Versions.{Vector, timestamp_at}
@@ -13,14 +12,14 @@ use Rattle.faust_types.specs.declared.operation.Operation.{Operation}
 use Rattle.faust_types.specs.declared.message.ReadPart.{ReadPart}
 use Rattle.faust_types.specs.declared.message.Reply.{Reply}
 use Rattle.faust_ustor.specs.Checks.{is_part_for}
-use Rattle.faust_ustor.specs.Passed.{next_of, told, told_of}
+use Rattle.faust_ustor.specs.Passed.{next_of, told_of}
 use Rattle.faust_ustor.specs.declared.judgement.Judged.{Judged}
 use Rattle.faust_ustor.proofs.Counts.{next-told, timestamp-next_own}
 use Rattle.faust_ustor.proofs.Passes.{JudgedOk, judged-passed}
-use Rattle.faust_agent.specs.State.{completed_count, is_idle, version_at}
-use Rattle.faust_agent.specs.Deeds.{Event, asked, passed, peer_in, read_of, replied, reply_in, ticked, told as told_by, write_of}
+use Rattle.faust_agent.specs.State.{completed_count, version_at}
+use Rattle.faust_agent.specs.Deeds.{Event, asked, passed, read_of, write_of}
 use Rattle.faust_agent.specs.InRange.{IsClientOf, IsDeedFor, IsWaitedFor}
-use Rattle.faust_agent.specs.Table.{after, answer_of, begun_by, completed_by, dummy_of, is_dummy_due, operation_of, ticked_by}
+use Rattle.faust_agent.specs.Table.{after, answer_of, completed_by, dummy_of, is_dummy_due, operation_of, ticked_by}
 use Rattle.faust_agent.specs.Tells.{IsEventFor, Tells}
 use Rattle.faust_agent.specs.declared.client.Client.{Client}
 use Rattle.faust_agent.specs.declared.deed.Completion.{Completion}
@@ -36,7 +35,7 @@ use Rattle.faust_record.specs.declared.entry.Input.TheVariants as inputs
 use Rattle.faust_record.specs.declared.entry.Entry.{Entry}
 use Rattle.faust_runs.proofs.Changes.{answer_to, begun-idle, begun_order, order-begun, outcome-answer, outcome-began}
 use Rattle.faust_runs.proofs.Events.{event-in_range}
-use Rattle.faust_runs.proofs.Frames.{IsFrame, IsMoved, completed-moved, frame-dummy, frame-heard, frame-ticked, idle-waiting}
+use Rattle.faust_runs.proofs.Frames.{IsMoved, completed-moved, frame-dummy, frame-heard, frame-ticked, idle-waiting}
 use Rattle.faust_runs.proofs.Stepping.{state-here}
 
 -- What a completion tells of its own, and that all of it can be printed.

@@ -1,15 +1,14 @@
 -- The operations of a client complete in the order in which they began.
 use Rattle.std.proofs.lemmas.List.{get_or-replicate}
-use Rattle.std.proofs.Common.{◌≡◌, ℕ, ◌+◌, ◌-◌, suc, List, [], ◌∷◌, ◌++◌, Option, Some, None, option_map, option_to_list, refl, sym, ap, ◌∙◌, subst, inl, inr, arith}
-use Rattle.std.proofs.lemmas.Bool.{cases_eq, eqb-true}
+use Rattle.std.proofs.Common.{◌≡◌, ℕ, ◌+◌, ◌-◌, suc, List, [], ◌∷◌, ◌++◌, Option, Some, None, option_map, option_to_list, refl, sym, ap, ◌∙◌, subst, arith}
+use Rattle.std.proofs.lemmas.Bool.{eqb-true}
 use Rattle.std.specs.Prelude.{Bool, true, false, cond, ◌==◌}
 use Rattle.faust_types.specs.Clients.{IsClient, IsClientCount}
 use Rattle.faust_types.specs.Messages.{unmade}
 use Rattle.faust_types.specs.Versions.{Vector, initial, timestamp_at}
 use Rattle.faust_types.specs.declared.config.Config.{Config}
 use Rattle.faust_types.specs.declared.message.Known.{Known}
-use Rattle.faust_types.specs.declared.operation.Kind.{Kind}
-use Rattle.faust_types.specs.declared.operation.Kind.TheVariants.{Write, Read}
+use Rattle.faust_types.specs.declared.operation.Kind.TheVariants.{Write}
 use Rattle.faust_types.specs.declared.operation.Answer.{Answer}
 use Rattle.faust_types.specs.declared.operation.OpName.{OpName}
 use Rattle.faust_types.specs.declared.operation.Operation.{Operation}
@@ -20,10 +19,10 @@ use Rattle.faust_agent.specs.declared.client.Client.{Client}
 use Rattle.faust_agent.specs.declared.deed.Order.{Order}
 use Rattle.faust_agent.proofs.Kept.{kept-first}
 use Rattle.faust_record.specs.Entries.{Obeys, state_at}
-use Rattle.faust_record.specs.Operations.{Finished, Started, finished_among, finished_in, order_in, started_among, started_in}
+use Rattle.faust_record.specs.Operations.{Finished, Started, finished_among, order_in, started_among}
 use Rattle.faust_record.specs.Runs.{IsRun, entries_of}
 use Rattle.faust_record.specs.declared.entry.Entry.{Entry}
-use Rattle.faust_cluster.specs.Answers.{IsPlain, IsWriteAnswer}
+use Rattle.faust_cluster.specs.Answers.{IsPlain}
 use Rattle.faust_cluster.specs.UserOperations.{name_by}
 use Rattle.faust_cluster.proofs.Changes.{Change, IsAnswerTo, IsChanged, closes, entry-changes, opens, stays}
 
@@ -108,17 +107,19 @@ closed n me t st now number [] began ended given was waits more answer counted a
     let both : None ≡ Some given.op = sym awaits ∙ was in absurd (cc)
 closed n me t st now number (started ∷ []) began ended given was waits more answer counted awaits later =
     let same : awaits.op ≡ given.op = some-same awaits.op given.op (sym awaits.waits ∙ was) in
-    let begun : IsBegun me t started given.op = subst (IsBegun me t started) same awaits.begun in
-    (record {
-      same_name = begun.same_name;
-      same_dummy = begun.same_dummy;
-      plain = λ write. record {
-        own_register = begun.own_register write ∙ sym (ap (λ (name : OpName). name.client) begun.same_name);
-        no_value = answer.no_value write;
-        no_asof = answer.no_asof write;
-      };
-      answer = answer;
-    }, later (suc t) [] (omega (arith, more, counted)) waits)
+    let begun : IsBegun me t started given.op = subst (IsBegun me t started) same awaits.begun in (
+      record {
+        same_name = begun.same_name;
+        same_dummy = begun.same_dummy;
+        plain = λ write. record {
+          own_register = begun.own_register write ∙ sym (ap (λ (name : OpName). name.client) begun.same_name);
+          no_value = answer.no_value write;
+          no_asof = answer.no_asof write;
+        };
+        answer = answer;
+      },
+      later (suc t) [] (omega (arith, more, counted)) waits,
+    )
 closed n me t st now number (started ∷ next ∷ rest) began ended given was waits more answer counted awaits later = absurd awaits
 
 along-step : (n me t : ℕ) (st now : Client) (number : ℕ) (order : Option Order) (answer : Option Answer) (pending began : List Started)

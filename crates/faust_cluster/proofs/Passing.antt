@@ -1,6 +1,6 @@
 -- One pass over a record compares the receipts of a user with what it completes.
-use Rattle.std.proofs.Common.{◌≡◌, ℕ, ◌+◌, ◌≤◌, ◌<◌, zero, suc, Bool, true, false, cond, List, [], ◌∷◌, ◌++◌, length, drop, get_or, Option, Some, None, option_map, option_to_list, refl, sym, ap, ◌∙◌, subst, inl, inr, arith, length-append}
-use Rattle.std.specs.Prelude.{◌==◌, codes, is_some, slice_get}
+use Rattle.std.proofs.Common.{◌≡◌, ℕ, ◌+◌, ◌≤◌, ◌<◌, zero, suc, Bool, true, false, cond, List, [], ◌∷◌, ◌++◌, length, drop, get_or, Option, Some, None, option_to_list, refl, sym, ap, ◌∙◌, arith, length-append}
+use Rattle.std.specs.Prelude.{codes, is_some, slice_get}
 use Rattle.std.specs.Fmt.{decimal}
 use Rattle.std.specs.Str.{bytes_eq}
 use Rattle.std.proofs.Math.Seq.{drop-nil}
@@ -212,20 +212,22 @@ pub receipt-passed : (i : ℕ) (entries : List Entry) (q : ℕ) (entry d : Entry
     → first_difference told (told_among i entries) ≡ first_difference (drop next told) (told_among i (drop q entries))
     → (now ≤ length told) × (first_difference told (told_among i entries)
     ≡ first_difference (drop now told) (told_among i (drop (q + 1) entries)))
-receipt-passed i entries q entry d finished told next now receipt e line within is some inside at due none more so_far =
-    (omega (arith, more, inside),
-    so_far ∙ receipt-right i entries q entry d finished told next receipt e line within is some inside at due (none-line line none)
-    ∙ ap (λ (k : ℕ). first_difference (drop k told) (told_among i (drop (q + 1) entries))) (sym more))
+receipt-passed i entries q entry d finished told next now receipt e line within is some inside at due none more so_far = (
+  omega (arith, more, inside),
+  so_far ∙ receipt-right i entries q entry d finished told next receipt e line within is some inside at due (none-line line none)
+      ∙ ap (λ (k : ℕ). first_difference (drop k told) (told_among i (drop (q + 1) entries))) (sym more),
+)
 
 pub entry-passed : (i : ℕ) (entries : List Entry) (q : ℕ) (entry d : Entry) (told : List Receipt) (next now : ℕ)
     → q < length entries → entry ≡ get_or entries q d → told_in i entry ≡ None → next ≤ length told → now ≡ next
     → first_difference told (told_among i entries) ≡ first_difference (drop next told) (told_among i (drop q entries))
     → (now ≤ length told) × (first_difference told (told_among i entries)
     ≡ first_difference (drop now told) (told_among i (drop (q + 1) entries)))
-entry-passed i entries q entry d told next now within is none few same so_far =
-    (omega (arith, same, few),
-    so_far ∙ entry-silent i entries q entry d (drop next told) within is none
-    ∙ ap (λ (k : ℕ). first_difference (drop k told) (told_among i (drop (q + 1) entries))) (sym same))
+entry-passed i entries q entry d told next now within is none few same so_far = (
+  omega (arith, same, few),
+  so_far ∙ entry-silent i entries q entry d (drop next told) within is none
+      ∙ ap (λ (k : ℕ). first_difference (drop k told) (told_among i (drop (q + 1) entries))) (sym same),
+)
 
 pub user-named : (config : Config) (entries : List Entry) (all : List (List Receipt)) (k : ℕ) (receipts d : List Receipt)
     (line : Option (List ℕ)) → IsRun config entries → length all ≡ config.clients → k < length all → receipts ≡ get_or all k d

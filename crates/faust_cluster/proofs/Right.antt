@@ -1,22 +1,21 @@
 -- No line comes exactly where every receipt is a completion.
-use Rattle.std.proofs.Common.{◌≡◌, ◌↔◌, ℕ, ◌+◌, ◌-◌, ◌^◌, ◌<◌, ◌≤◌, ◌==◌, zero, suc, Bool, true, false, cond, List, [], ◌∷◌, ◌++◌, length, Option, Some, None, IfSome, IsSomeAnd, option_map, option_to_list, refl, sym, ap, ◌∙◌, subst, inl, inr, arith}
-use Rattle.std.specs.Prelude.{codes, slice_get}
+use Rattle.std.proofs.Common.{◌≡◌, ◌↔◌, ℕ, ◌+◌, ◌-◌, ◌^◌, ◌<◌, ◌≤◌, ◌==◌, zero, suc, Bool, true, false, cond, List, [], ◌∷◌, ◌++◌, length, Option, Some, None, IfSome, IsSomeAnd, option_map, option_to_list, refl, sym, ap, ◌∙◌, subst, arith}
+use Rattle.std.specs.Prelude.{slice_get}
 use Rattle.std.specs.Str.{bytes_eq}
-use Rattle.std.proofs.lemmas.Bool.{both_ways, cases_eq, cond-true}
+use Rattle.std.proofs.lemmas.Bool.{both_ways, cond-true}
 use Rattle.std.proofs.lemmas.Slice.Eq.{bytes_eq-Decides}
 use Rattle.faust_types.specs.Clients.{IsClient}
 use Rattle.faust_types.specs.declared.config.Config.{Config}
 use Rattle.faust_types.specs.declared.operation.Answer.{Answer}
 use Rattle.faust_types.specs.declared.operation.OpName.{OpName}
-use Rattle.faust_record.specs.Operations.{Finished, Started, finished_among, finished_in, started_among}
+use Rattle.faust_record.specs.Operations.{Finished, Started, finished_among, started_among}
 use Rattle.faust_record.specs.Runs.{AreNumbered, IsRun, entries_of}
 use Rattle.faust_record.specs.declared.entry.Entry.{Entry}
 use Rattle.faust_report.specs.Text.{done_line}
-use Rattle.faust_cluster.specs.Comparing.{told_among}
-use Rattle.faust_cluster.specs.Lines.{differs_line, due_line, first_differing, first_differing_of, or_later, told_line}
+use Rattle.faust_cluster.specs.Lines.{due_line, first_differing, first_differing_of, or_later, told_line}
 use Rattle.faust_cluster.specs.Receipts.{AreAllCompletions, AreAllPrintable, AreCompletions, ArePrintable, IsCompletion, IsPrintable}
 use Rattle.faust_cluster.specs.Answers.{IsUserAnswer}
-use Rattle.faust_cluster.specs.UserOperations.{name_by, user_completion}
+use Rattle.faust_cluster.specs.UserOperations.{user_completion}
 use Rattle.faust_cluster.specs.declared.receipt.Receipt.{Receipt}
 use Rattle.faust_cluster.proofs.Ordered.{AreTold, IsToldOf, told-in-run}
 use Rattle.faust_cluster.proofs.Passing.{not-none}
@@ -138,9 +137,11 @@ right-user : (config : Config) (entries : List Entry) (i u : ℕ) (receipts : Li
     → AreCompletions entries i u receipts
 right-user config entries i u [] run sized client fits none = tt
 right-user config entries i u (receipt ∷ rest) run sized client fits none =
-    let both = none-both _ _ _ none in
-    (right-one config.clients i receipt (user_completion entries i u) fits.0 (completion-tells config entries i u run sized client)
-    both.is_same, right-user config entries i (suc u) rest run sized client fits.1 both.none_later)
+    let both = none-both _ _ _ none in (
+      right-one config.clients i receipt (user_completion entries i u) fits.0 (completion-tells config entries i u run sized client)
+          both.is_same,
+      right-user config entries i (suc u) rest run sized client fits.1 both.none_later,
+    )
 
 user-is-right : (entries : List Entry) (i u : ℕ) (receipts : List Receipt) → AreCompletions entries i u receipts
     → first_differing entries i u receipts ≡ None
@@ -162,9 +163,10 @@ right-users : (config : Config) (entries : List Entry) (i : ℕ) (all : List (Li
     → first_differing_of entries i all ≡ None → AreAllCompletions entries i all
 right-users config entries i [] run sized one counted fits none = tt
 right-users config entries i (receipts ∷ rest) run sized one counted fits none =
-    let both = or-none _ _ none in
-    (right-user config entries i 0 receipts run sized (record { from_one = one; to_n = omega (arith, counted) }) fits.0 both.first_none,
-    right-users config entries (suc i) rest run sized (omega arith) (omega (arith, counted)) fits.1 both.later_none)
+    let both = or-none _ _ none in (
+      right-user config entries i 0 receipts run sized (record { from_one = one; to_n = omega (arith, counted) }) fits.0 both.first_none,
+      right-users config entries (suc i) rest run sized (omega arith) (omega (arith, counted)) fits.1 both.later_none,
+    )
 
 users-are-right : (entries : List Entry) (i : ℕ) (all : List (List Receipt)) → AreAllCompletions entries i all
     → first_differing_of entries i all ≡ None

@@ -1,12 +1,12 @@
 -- Which user is short.
-use Rattle.std.proofs.Common.{◌≡◌, ℕ, ◌+◌, ◌<◌, ◌≤◌, ◌==◌, ◌&&◌, ◌||◌, suc, Bool, true, false, cond, not, List, [], ◌∷◌, ◌++◌, length, take, drop, get_or, Option, Some, None, is_none, refl, sym, ap, ◌∙◌, subst, inl, inr, arith, length-append}
+use Rattle.std.proofs.Common.{◌≡◌, ℕ, ◌+◌, ◌<◌, ◌≤◌, ◌==◌, ◌&&◌, ◌||◌, suc, Bool, true, false, cond, List, ◌∷◌, length, drop, get_or, Some, None, is_none, refl, sym, ap, ◌∙◌, arith}
 use Rattle.std.specs.List.{list_any}
 use Rattle.std.proofs.lemmas.Bool.{and_from, cond-true, cond-false, eq-eqb}
 use Rattle.std.proofs.lemmas.List.{drop_all, drop_more}
 use Rattle.faust_record.specs.Laws.{acts_of}
 use Rattle.faust_record.specs.Runs.{arriving, entries_of}
 use Rattle.faust_record.specs.declared.entry.Entry.{Entry}
-use Rattle.faust_record.proofs.Fed.{IsAt, at-place}
+use Rattle.faust_record.proofs.Fed.{at-place}
 use Rattle.faust_cluster.specs.Lines.{first_short, has_notice, is_short, short_line}
 use Rattle.faust_cluster.specs.declared.receipt.Receipt.{Receipt}
 

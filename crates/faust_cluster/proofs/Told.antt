@@ -1,17 +1,17 @@
 -- The u-th operation of a user completes in the u-th entry that completes one of its own.
-use Rattle.std.proofs.Common.{◌≡◌, ℕ, ◌≤◌, ◌<◌, zero, suc, Bool, true, false, cond, List, [], ◌∷◌, ◌++◌, Option, Some, None, IfSome, option_map, option_to_list, refl, sym, ap, ◌∙◌, subst, inl, inr, arith}
+use Rattle.std.proofs.Common.{◌≡◌, ℕ, ◌≤◌, ◌<◌, zero, suc, Bool, true, false, cond, List, [], ◌∷◌, ◌++◌, Option, Some, None, IfSome, option_map, option_to_list, refl, sym, ap, ◌∙◌, subst, arith}
 use Rattle.std.specs.Prelude.{◌==◌, ◌&&◌, option_and_then, slice_get}
-use Rattle.std.proofs.lemmas.Bool.{cases_eq, and_from, cond-true, cond-false, eq-eqb, ne_eqb}
+use Rattle.std.proofs.lemmas.Bool.{and_from, cond-true, cond-false, eq-eqb, ne_eqb}
 use Rattle.faust_types.specs.Clients.{IsClient}
 use Rattle.faust_types.specs.declared.config.Config.{Config}
 use Rattle.faust_types.specs.declared.operation.Answer.{Answer}
 use Rattle.faust_types.specs.declared.operation.OpName.{OpName}
-use Rattle.faust_record.specs.Operations.{Finished, Started, completion_named, finished_among, finished_in, first_finished, is_named, started_among}
+use Rattle.faust_record.specs.Operations.{Finished, Started, completion_named, finished_among, first_finished, is_named, started_among}
 use Rattle.faust_record.specs.Runs.{IsRun, entries_of}
 use Rattle.faust_record.specs.declared.entry.Entry.{Entry}
-use Rattle.faust_cluster.specs.Comparing.{told_among, told_in, unless_dummy}
-use Rattle.faust_cluster.specs.UserOperations.{name_by, user_completion, user_numbers, user_operation}
-use Rattle.faust_cluster.proofs.Ordered.{AreTold, IsToldOf, told-in-run}
+use Rattle.faust_cluster.specs.Comparing.{told_among, unless_dummy}
+use Rattle.faust_cluster.specs.UserOperations.{name_by, user_completion, user_numbers}
+use Rattle.faust_cluster.proofs.Ordered.{AreTold, told-in-run}
 
 -- Of completions those of no dummy read.
 abbrev pub user_finished : List Finished → List Finished

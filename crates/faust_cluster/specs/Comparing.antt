@@ -1,5 +1,5 @@
 -- How one pass over a record compares receipts. This file helps proofs.
-use Rattle.std.specs.Prelude.{ℕ, ◌==◌, ◌&&◌, not, Bool, cond, List, [], ◌∷◌, ◌++◌, Option, Some, None, option_map, option_to_list}
+use Rattle.std.specs.Prelude.{ℕ, ◌==◌, cond, List, [], ◌∷◌, ◌++◌, Option, Some, None, option_map, option_to_list}
 use Rattle.std.specs.Str.{bytes_eq}
 use Rattle.faust_types.specs.declared.operation.Answer.{Answer}
 use Rattle.faust_record.specs.Operations.{Finished}

@@ -1,5 +1,5 @@
 -- The operations that users began, and when each completed. The promises of `differs` and `short` rest on this file.
-use Rattle.std.specs.Prelude.{ℕ, suc, cond, List, [], ◌∷◌, Option, Some, None, option_map, option_and_then, slice_get}
+use Rattle.std.specs.Prelude.{ℕ, suc, cond, List, [], ◌∷◌, Option, option_map, option_and_then, slice_get}
 use Rattle.faust_types.specs.declared.operation.OpName.{OpName}
 use Rattle.faust_record.specs.Operations.{Finished, Started, completion_named, started_among}
 use Rattle.faust_record.specs.Runs.{entries_of}

@@ -11,8 +11,8 @@
 //! How receipts come to users, and what the record says besides, is not the business of this crate.
 #![tactic(auto)]
 
-mod done_line;
 mod differing;
+mod done_line;
 pub mod laws;
 mod receipt;
 mod run_entry;

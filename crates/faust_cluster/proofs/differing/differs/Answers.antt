@@ -1,4 +1,4 @@
-use Rattle.std.proofs.Common.{◌≡◌, ◌+◌, ◌<◌, ℕ, List, Option, get_or, length, sym, ap, ◌∙◌, arith}
+use Rattle.std.proofs.Common.{◌≡◌, ◌+◌, ◌<◌, List, get_or, length, sym, ap, ◌∙◌, arith}
 use Rattle.faust_cluster.specs.Comparing.{first_difference, told_among}
 use Rattle.faust_cluster.specs.declared.receipt.Receipt.{Receipt}
 use Rattle.faust_cluster.proofs.Passing.{user-named, user-passed}

@@ -1,8 +1,6 @@
-use Rattle.std.proofs.Common.{◌≡◌, ◌<◌, ℕ, List, Option, Some, None, length, sym, ◌∙◌, arith}
-use Rattle.faust_types.specs.declared.operation.Answer.{Answer}
+use Rattle.std.proofs.Common.{◌<◌, length, sym, ◌∙◌, arith}
 use Rattle.faust_record.specs.Operations.{Finished}
 use Rattle.faust_record.specs.declared.entry.Entry.{Entry}
-use Rattle.faust_cluster.specs.declared.receipt.Receipt.{Receipt}
 use Rattle.faust_cluster.proofs.Passing.{entry-passed, receipt-named, receipt-passed}
 use Rattle.faust_cluster.proofs.differing.first_difference.Goals as goal
 use Rattle.faust_cluster.proofs.differing.first_difference.Goals.{in-Some+in_ok-line-in-Some+else-is_some+in-Some-1, in-Some+in_ok-line-in-Some+else-is_some+in-None-1, in-None}
