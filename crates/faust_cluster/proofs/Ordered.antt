@@ -22,7 +22,7 @@ use Rattle.faust_record.specs.Entries.{Obeys, state_at}
 use Rattle.faust_record.specs.Operations.{Finished, Started, finished_among, order_in, started_among}
 use Rattle.faust_record.specs.Runs.{IsRun, entries_of}
 use Rattle.faust_record.specs.declared.entry.Entry.{Entry}
-use Rattle.faust_cluster.specs.Answers.{IsPlain}
+use Rattle.faust_node.specs.Answers.{IsPlain}
 use Rattle.faust_cluster.specs.UserOperations.{name_by}
 use Rattle.faust_cluster.proofs.Changes.{Change, IsAnswerTo, IsChanged, closes, entry-changes, opens, stays}
 

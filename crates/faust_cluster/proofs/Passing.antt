@@ -18,7 +18,7 @@ use Rattle.faust_report.specs.Text.{answer_text, done_line, name_text}
 use Rattle.faust_cluster.specs.Comparing.{first_difference, told_among, told_in}
 use Rattle.faust_cluster.specs.Lines.{differs_line, due_line, first_differing, first_differing_of, or_later, told_line}
 use Rattle.faust_cluster.specs.UserOperations.{user_completion}
-use Rattle.faust_cluster.specs.declared.receipt.Receipt.{Receipt}
+use Rattle.faust_node.specs.declared.receipt.Receipt.{Receipt}
 use Rattle.faust_cluster.proofs.Told.{completion-told}
 
 -- an entry that completes nothing for the user, and one that does

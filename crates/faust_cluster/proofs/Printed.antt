@@ -15,7 +15,7 @@ use Rattle.hex.specs.Hex.{encode_lower}
 use Rattle.faust_text.proofs.NumberLaws.{digits_at, is_number-decimal, number_of-decimal}
 use Rattle.faust_text.proofs.ValueLaws.{printed_again}
 use Rattle.faust_report.specs.Text.{answer_text, done_line, name_text, register_text}
-use Rattle.faust_cluster.specs.Answers.{IsPlain, IsUserAnswer}
+use Rattle.faust_node.specs.Answers.{IsPlain, IsUserAnswer}
 use Rattle.faust_cluster.specs.Receipts.{IsPrintable}
 
 -- bytes without a byte

@@ -14,9 +14,9 @@ use Rattle.faust_record.specs.declared.entry.Entry.{Entry}
 use Rattle.faust_report.specs.Text.{done_line}
 use Rattle.faust_cluster.specs.Lines.{due_line, first_differing, first_differing_of, or_later, told_line}
 use Rattle.faust_cluster.specs.Receipts.{AreAllCompletions, AreAllPrintable, AreCompletions, ArePrintable, IsCompletion, IsPrintable}
-use Rattle.faust_cluster.specs.Answers.{IsUserAnswer}
+use Rattle.faust_node.specs.Answers.{IsUserAnswer}
 use Rattle.faust_cluster.specs.UserOperations.{user_completion}
-use Rattle.faust_cluster.specs.declared.receipt.Receipt.{Receipt}
+use Rattle.faust_node.specs.declared.receipt.Receipt.{Receipt}
 use Rattle.faust_cluster.proofs.Ordered.{AreTold, IsToldOf, told-in-run}
 use Rattle.faust_cluster.proofs.Passing.{not-none}
 use Rattle.faust_cluster.proofs.Printed.{IsOneLine, done-line-one}

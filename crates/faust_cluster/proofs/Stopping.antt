@@ -8,7 +8,7 @@ use Rattle.faust_record.specs.Runs.{arriving, entries_of}
 use Rattle.faust_record.specs.declared.entry.Entry.{Entry}
 use Rattle.faust_record.proofs.Fed.{at-place}
 use Rattle.faust_cluster.specs.Lines.{first_short, has_notice, is_short, short_line}
-use Rattle.faust_cluster.specs.declared.receipt.Receipt.{Receipt}
+use Rattle.faust_node.specs.declared.receipt.Receipt.{Receipt}
 
 -- one user after the other
 next-short : (entries : List Entry) (ops k : ℕ) (all : List (List Receipt)) (receipts d : List Receipt) → k < length all

@@ -5,7 +5,7 @@ use Rattle.faust_types.specs.declared.operation.Answer.{Answer}
 use Rattle.faust_record.specs.Operations.{Finished}
 use Rattle.faust_record.specs.declared.entry.Entry.{Entry}
 use Rattle.faust_cluster.specs.Lines.{differs_line, due_line, told_line}
-use Rattle.faust_cluster.specs.declared.receipt.Receipt.{Receipt}
+use Rattle.faust_node.specs.declared.receipt.Receipt.{Receipt}
 
 -- What an entry completes for client i's user.
 abbrev pub unless_dummy : ℕ → Option Answer → Option Finished

@@ -1,4 +1,3 @@
-pub mod Answers
 pub mod UserOperations
 pub mod Receipts
 pub mod Lines

@@ -9,7 +9,7 @@ use Rattle.faust_record.specs.Runs.{entries_of}
 use Rattle.faust_record.specs.declared.entry.Entry.{Entry}
 use Rattle.faust_report.specs.Text.{done_line}
 use Rattle.faust_cluster.specs.UserOperations.{user_completion}
-use Rattle.faust_cluster.specs.declared.receipt.Receipt.{Receipt}
+use Rattle.faust_node.specs.declared.receipt.Receipt.{Receipt}
 
 -- The report's line of the operation, as the receipt has it and as it completed.
 abbrev pub told_line : Receipt → List ℕ

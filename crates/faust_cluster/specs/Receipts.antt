@@ -5,7 +5,7 @@ use Rattle.faust_types.specs.declared.operation.Answer.{Answer}
 use Rattle.faust_record.specs.Operations.{Finished}
 use Rattle.faust_record.specs.declared.entry.Entry.{Entry}
 use Rattle.faust_cluster.specs.UserOperations.{user_completion}
-use Rattle.faust_cluster.specs.declared.receipt.Receipt.{Receipt}
+use Rattle.faust_node.specs.declared.receipt.Receipt.{Receipt}
 
 -- A receipt is a completion: of the entry with this number, with this answer.
 pub record IsCompletion (receipt : Receipt) (finished : Finished) : Type 0 where

@@ -5,8 +5,9 @@ ghost use Rattle.faust_cluster.specs.Comparing.{first_difference, told_among, to
 ghost use Rattle.faust_cluster.specs.Lines.{differs_line, first_differing_of, told_line};
 
 use crate::done_line::done_line;
-use crate::receipt::{Receipt, Receipts};
+use crate::receipt::Receipts;
 use crate::run_entry::entry_at;
+use faust_node::Receipt;
 use faust_record::{Entry, RunRecord};
 use faust_types::{Answer, Bytes, OutOfMemory};
 use std::alloc::Global;

@@ -5,7 +5,7 @@ ghost use Rattle.faust_record.specs.Runs.{IsRun};
 ghost use Rattle.faust_record.specs.declared.entry.Entry.{Entry};
 ghost use Rattle.faust_cluster.specs.Lines.{first_differing_of};
 ghost use Rattle.faust_cluster.specs.Receipts.{AreAllCompletions, AreAllPrintable};
-ghost use Rattle.faust_cluster.specs.declared.receipt.Receipt.{Receipt};
+ghost use Rattle.faust_node.specs.declared.receipt.Receipt.{Receipt};
 
 /// No line says that a receipt differs exactly where each receipt, of a run's users, is the completion of the operation
 /// that its user began at that place: its number and its answer are those of the entry that completed it.

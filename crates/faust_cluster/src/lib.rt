@@ -4,7 +4,7 @@
 //! in the record says why.
 //!
 //! `specs/UserOperations.antt` comes first: which operations of a record are a user's, and when each completed.
-//! `specs/Answers.antt` says which answers a user may get, and `specs/Receipts.antt` that receipts are completions;
+//! `faust_node` says which answers a user may get, and `specs/Receipts.antt` that receipts are completions;
 //! `specs/Lines.antt` has the lines that name what is wrong. `laws` says that no line comes exactly where every receipt
 //! is right.
 //!
@@ -21,5 +21,5 @@ mod shortage;
 mod tests;
 
 pub use differing::differs;
-pub use receipt::{Receipt, Receipts};
+pub use receipt::Receipts;
 pub use shortage::short;

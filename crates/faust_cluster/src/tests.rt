@@ -1,7 +1,8 @@
 ghost use Rattle.std.specs.Prelude.{◌≡◌, IfOk};
 ghost use Rattle.faust_types.specs.Ranges.{IsConfig, IsWire};
 
-use crate::{Receipt, Receipts, differs, short};
+use crate::{Receipts, differs, short};
+use faust_node::Receipt;
 use faust_record::{PushError, PushInput, RunRecord};
 use faust_types::{
     Answer, Bytes, Config, Kind, MAX_MESSAGE_LEN, OpName, Operation, OutOfMemory, Sequence,

@@ -1,6 +1,6 @@
 use Rattle.std.proofs.Common.{◌≡◌, ◌+◌, ◌<◌, List, get_or, length, sym, ap, ◌∙◌, arith}
 use Rattle.faust_cluster.specs.Comparing.{first_difference, told_among}
-use Rattle.faust_cluster.specs.declared.receipt.Receipt.{Receipt}
+use Rattle.faust_node.specs.declared.receipt.Receipt.{Receipt}
 use Rattle.faust_cluster.proofs.Passing.{user-named, user-passed}
 use Rattle.faust_cluster.proofs.differing.differs.Goals as goal
 
