@@ -1,0 +1,4 @@
+pub mod UserOperations
+pub mod Receipts
+pub mod Lines
+pub mod Comparing
