@@ -136,11 +136,12 @@ impl<T: Session> Node<T> {
         ensures message { IfOk result (λ message. IsFrame message.bytes) }
         ensures cause { IfErr result IsOutboxCause }
     {
+        let mut from = from;
         let mut cell = self.cell.lock(rt);
         for _ in rt.forever() {
             match cell.message_from(from) {
                 Ok(Some(message)) => return Ok(message),
-                Ok(None) => {}
+                Ok(None) => from = cell.journal().len(),
                 Err(_) => return Err(Closing::Memory),
             }
             if let Some(cause) = cell.stop() {
@@ -183,11 +184,12 @@ impl<T: Session> Node<T> {
         ensures batch { IfOk result (λ batch. AreCarried batch.posts) }
         ensures cause { IfErr result IsOutboxCause }
     {
+        let mut from = from;
         let mut cell = self.cell.lock(rt);
         for _ in rt.forever() {
             match cell.batch_from(from) {
                 Ok(Some(batch)) => return Ok(batch),
-                Ok(None) => {}
+                Ok(None) => from = cell.journal().len(),
                 Err(_) => return Err(Closing::Memory),
             }
             if let Some(cause) = cell.stop() {
