@@ -1,0 +1,1 @@
+-- How many arrivals there are: a list that grew by one, and the bound over all clients.
