@@ -1,1 +1,8 @@
-mod Counting
+-- how many arrivals each client has, and how many there are in all
+pub mod Counting
+-- the replay of one more arrival, and what a log keeps then
+pub mod Growing
+-- frames that were taken one after the other
+pub mod Taking
+-- why a connection stopped
+pub mod Stopping

@@ -1,6 +1,6 @@
 -- Why a host stopped to serve a connection, and which frames it took until then. The clause of `Host::serve` rests on this
 -- file.
-use Rattle.std.specs.Prelude.{◌≡◌, ℕ, ◌⊎◌, List, [], ◌∷◌, ◌++◌, Option, IsSome, IsNone}
+use Rattle.std.specs.Prelude.{◌≡◌, ℕ, ◌⊎◌, List, [], ◌∷◌, ◌++◌, Option, IsSome, IsNone, IfSome}
 use Rattle.std.specs.List.{AllByRecursion}
 use Rattle.std.specs.Io.KnownBytes.{Consumes, IsAtEnd}
 use Rattle.faust_io.specs.Faults.{CountsFault}
@@ -54,11 +54,15 @@ pub record IsQuiet (before after : Ends) : Type 0 where
   pub no_end : after.inlet.ends ≡ before.inlet.ends
   pub faultless : IsFaultless before after
 
+-- Where the bytes were told before, none is left.
+abbrev pub IsAtEndIfTold : Inlet → Inlet → Type 0
+IsAtEndIfTold before after = IfSome before.left (λ _. IsAtEnd after.left)
+
 -- The stream ended behind frames that stood in their places.
 pub record EndedBehind (n : ℕ) (before after : Ends) (frames : List (List ℕ)) : Type 0 where
   pub taken : Took before.inlet after.inlet frames
   pub in_place : AreInPlace n frames
-  pub at_end : IsAtEnd after.inlet.left
+  pub at_end : IsAtEndIfTold before.inlet after.inlet
   pub ended : CountsFault before.inlet.ends after.inlet.ends
   pub faultless : IsFaultless before after
 

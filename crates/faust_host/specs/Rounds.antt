@@ -4,12 +4,19 @@ use Rattle.std.specs.List.{AllByRecursion}
 use Rattle.std.specs.Io.KnownBytes.{IsAtEnd, Keeps}
 use Rattle.faust_io.specs.Faults.{CountsFault}
 use Rattle.faust_link.specs.Links.{TakesFrame}
+use Rattle.faust_link.specs.declared.answers.LinkError.{LinkError}
+use Rattle.faust_link.specs.declared.answers.LinkError.TheVariants as links
 use Rattle.faust_types.specs.Clients.{IsClient}
 use Rattle.faust_types.specs.declared.arrival.Closing.{Closing}
 use Rattle.faust_types.specs.declared.arrival.Closing.TheVariants as closings
 use Rattle.faust_wire.specs.Grammar.{hello_bytes}
 use Rattle.faust_host.specs.Requests.{request_in}
 use Rattle.faust_host.specs.Connections.{Inlet, Ends, Took, IsFaultless, IsQuiet, IsHello, IsRequest}
+
+-- How a link that did nothing stops a connection.
+abbrev pub stop_of : LinkError → Closing
+stop_of links.Failed = closings.Link
+stop_of links.OutOfMemory = closings.Memory
 
 -- One frame was taken; or the end was found; or there was no memory.
 pub record TookOne (before after : Inlet) (frame : List ℕ) : Type 0 where

@@ -8,7 +8,7 @@ ghost use Rattle.faust_io.specs.Faults.{CountsFault};
 ghost use Rattle.faust_link.specs.Frames.{IsFrame};
 ghost use Rattle.faust_host.specs.Cells.{Names};
 ghost use Rattle.faust_host.specs.Connections.{StoppedBy};
-ghost use Rattle.faust_host.specs.Rounds.{Greets, Rounds, StopsBehind, TakesOne, TellsOf, SendStopped};
+ghost use Rattle.faust_host.specs.Rounds.{Greets, Rounds, StopsBehind, TakesOne, TellsOf, SendStopped, stop_of};
 
 use crate::gate::Gate;
 use crate::greeting::client_named_in;
@@ -170,8 +170,7 @@ fn take_frame<I: FrameIn>(input: &mut I, frame: &mut Bytes) -> Result<(), Closin
     match input.recv(frame) {
         Ok(Got::Frame) => Ok(()),
         Ok(_) => Err(Closing::Ended),
-        Err(LinkError::Failed) => Err(Closing::Link),
-        Err(LinkError::OutOfMemory) => Err(Closing::Memory),
+        Err(refusal) => Err(cause_of(refusal)),
     }
 }
 
@@ -182,7 +181,16 @@ fn send<O: FrameOut>(output: &mut O, reply: &[u8]) -> Result<(), Closing>
 {
     match output.send(reply) {
         Ok(()) => Ok(()),
-        Err(LinkError::Failed) => Err(Closing::Link),
-        Err(LinkError::OutOfMemory) => Err(Closing::Memory),
+        Err(error) => Err(cause_of(error)),
+    }
+}
+
+/// Why a link that did nothing stops a connection.
+fn cause_of(error: LinkError) -> Closing
+    ensures { result ≡ stop_of error }
+{
+    match error {
+        LinkError::Failed => Closing::Link,
+        LinkError::OutOfMemory => Closing::Memory,
     }
 }
