@@ -1,6 +1,7 @@
 -- One more arrival: the replay goes on with it, and a log keeps what it keeps.
-use Rattle.std.proofs.Common.{◌≡◌, ℕ, ◌+◌, ◌-◌, ◌*◌, ◌^◌, ◌<◌, ◌≤◌, zero, suc, List, [], ◌∷◌, ◌++◌, length, map, Option, Some, None, Result, Ok, Err, refl, sym, ap, ◌∙◌, subst, inl, inr, arith, length-append}
-use Rattle.std.proofs.lemmas.List.{map-append}
+use Rattle.std.proofs.Common.{◌≡◌, ℕ, ◌+◌, ◌-◌, ◌*◌, ◌^◌, ◌<◌, ◌≤◌, zero, suc, List, [], ◌∷◌, ◌++◌, length, map, slice_index, slice_set, Option, Some, None, Result, Ok, Err, refl, sym, ap, ◌∙◌, subst, inl, inr, arith, length-append}
+use Rattle.std.proofs.lemmas.List.{map-append, get_or-set_other}
+use Rattle.std.proofs.lemmas.Grind.{get_or-set_at}
 use Rattle.std.proofs.lemmas.Bool.{cases_eq}
 use Rattle.std.specs.List.{AllByRecursion}
 use Rattle.faust_types.specs.Clients.{IsClient, IsClientCount}
@@ -66,3 +67,27 @@ numbered-push n i bytes number xs seat count in_range kept room =
       few = few;
       bounded = length-bound n 200000 (xs ++ a ∷ []) each few;
     }
+
+-- each client's count goes with its arrivals
+pub counted-push : (n i : ℕ) (bytes : List ℕ) (number : ℕ) (counts : List ℕ) (xs : List Arrival) → IsClient n i → length counts ≡ n
+    → ((k : ℕ) → IsClient n k → slice_index counts (k - 1) ≡ arrivals_of k xs) → (k : ℕ) → IsClient n k
+    → slice_index (slice_set counts (i - 1) (slice_index counts (i - 1) + 1)) (k - 1)
+        ≡ arrivals_of k (xs ++ record { number = number; client = i; message = bytes } ∷ [])
+counted-push n i bytes number counts xs of_i sized counted k of_k =
+    let a : Arrival = record { number = number; client = i; message = bytes } in
+    let here = of_i.from_one in
+    let there = of_k.from_one in
+    let within = of_i.to_n in
+    elim (cases_eq i k) [
+      | inl e ↦
+          let grown = arrivals_of-push_own k xs a e in
+          let before = counted k of_k in
+          let same = ap (λ j. slice_index counts (j - 1)) e in
+          let put = get_or-set_at counts (i - 1) (k - 1) (slice_index counts (i - 1) + 1) 0 (ap (λ j. j - 1) (sym e)) (omega (arith, within, here, sized)) in
+          omega (arith, grown, before, same, put)
+      | inr ne ↦
+          let kept = arrivals_of-push_other k xs a ne in
+          let before = counted k of_k in
+          let other = get_or-set_other counts (i - 1) (k - 1) (slice_index counts (i - 1) + 1) 0 (λ e. ne (omega (arith, e, here, there))) in
+          omega (arith, kept, before, other)
+    ]

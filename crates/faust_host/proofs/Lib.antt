@@ -6,3 +6,7 @@ pub mod Growing
 pub mod Taking
 -- why a connection stopped
 pub mod Stopping
+-- what an answer of a cell tells of the bytes
+pub mod Telling
+-- that a reply can be sent
+pub mod Sized

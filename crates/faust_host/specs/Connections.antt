@@ -40,6 +40,12 @@ pub record Ends : Type 0 where
   pub inlet : Inlet
   pub faults_out : ℕ
 
+abbrev pub inlet_at : Option (List ℕ) → ℕ → ℕ → Inlet
+inlet_at left ends faults = record { left = left; ends = ends; faults = faults }
+
+abbrev pub ends_at : Option (List ℕ) → ℕ → ℕ → ℕ → Ends
+ends_at left ends faults faults_out = record { inlet = inlet_at left ends faults; faults_out = faults_out }
+
 -- These frames were taken, where the bytes are told: the stream went on with theirs, and the rest is left.
 pub record Took (before after : Inlet) (frames : List (List ℕ)) : Type 0 where
   pub each : AreFrames frames

@@ -1,6 +1,6 @@
 -- What a host's log keeps, in memory. It only helps proofs: what arrivals keep stands in `Arriving`.
-use Rattle.std.specs.Prelude.{◌≡◌, ℕ, suc, ◌<◌, List, [], ◌∷◌, ◌++◌, length, slice_index}
-use Rattle.faust_types.specs.Clients.{IsClientCount}
+use Rattle.std.specs.Prelude.{◌≡◌, ℕ, ◌-◌, List, [], ◌∷◌, ◌++◌, slice_index}
+use Rattle.faust_types.specs.Clients.{IsClient, IsClientCount}
 use Rattle.faust_types.specs.declared.arrival.Arrival.{Arrival}
 use Rattle.faust_ticket.specs.Holders.{SeatView, after_draw}
 use Rattle.faust_host.specs.Arriving.{AreNumbered, arrivals_of}
@@ -25,4 +25,4 @@ logged log i bytes number = record {
 pub record IsCounted (counts : List ℕ) (log : Log) : Type 0 where
   pub clients_count : IsClientCount log.clients
   pub numbered : AreNumbered log.clients log.arrivals log.seat
-  pub counted : (k : ℕ) → k < log.clients → slice_index counts k ≡ arrivals_of (suc k) log.arrivals
+  pub counted : (i : ℕ) → IsClient log.clients i → slice_index counts (i - 1) ≡ arrivals_of i log.arrivals

@@ -38,7 +38,8 @@ impl<T: Counter> ArrivalLog<T> {
     pub fn new(alloc: Global, n: u8, seat: Seat<T>) -> Result<ArrivalLog<T>, OutOfMemory>
         requires count { IsClientCount n }
         requires seat { seat ≡ first_seat }
-        ensures { IfOk result (λ log. log ≡ first_log n seat) }
+        ensures log { IfOk result (λ log. log ≡ first_log n seat) }
+        ensures kept { IfOk result (λ log. AreNumbered log.clients log.arrivals log.seat) }
     {
         let counts = Vec::from_elem(alloc, 0, usize::from(n))?;
         Ok(ArrivalLog {
@@ -63,6 +64,7 @@ impl<T: Counter> ArrivalLog<T> {
         requires room { is_full i self.old.arrivals ≡ false }
         ensures ok { OnOk result ((number : ℕ) × (self.new ≡ logged self.old i bytes.now number)) }
         ensures err { OnErr result (self.new ≡ self.old) }
+        ensures kept { AreNumbered self.new.clients self.new.arrivals self.new.seat }
     {
         let place = usize::from(i) - 1;
         let message = Bytes::from_slice(*self.arrivals.allocator(), bytes)?;
@@ -81,6 +83,7 @@ impl<T: Counter> ArrivalLog<T> {
     pub fn into_parts(self) -> (Arrivals, Seat<T>)
         ensures arrivals { result.0 ≡ self.arrivals }
         ensures seat { result.1 ≡ self.seat }
+        ensures kept { AreNumbered self.clients self.arrivals self.seat }
     {
         (Arrivals::from_vec(self.arrivals), self.seat)
     }

@@ -7,7 +7,7 @@ ghost use Rattle.faust_host.specs.Arriving.{AreServed};
 ghost use Rattle.faust_io.specs.Faults.{CountsFault};
 ghost use Rattle.faust_link.specs.Frames.{IsFrame};
 ghost use Rattle.faust_host.specs.Cells.{Names};
-ghost use Rattle.faust_host.specs.Connections.{StoppedBy};
+ghost use Rattle.faust_host.specs.Connections.{StoppedBy, ends_at, inlet_at};
 ghost use Rattle.faust_host.specs.Rounds.{Greets, Rounds, StopsBehind, TakesOne, TellsOf, SendStopped, stop_of};
 
 use crate::gate::Gate;
@@ -62,15 +62,28 @@ impl<T: Service> Host<T> {
         output: &mut O,
         gate: &G,
     ) -> Closing
-        ensures { StoppedBy T.clients (record { inlet = record { left = I.left input.old; ends = I.ends input.old; faults = I.faults input.old }; faults_out = O.faults output.old }) (record { inlet = record { left = I.left input.new; ends = I.ends input.new; faults = I.faults input.new }; faults_out = O.faults output.new }) result }
+        ensures { StoppedBy T.clients (ends_at (I.left input.old) (I.ends input.old) (I.faults input.old) (O.faults output.old)) (ends_at (I.left input.new) (I.ends input.new) (I.faults input.new) (O.faults output.new)) result }
     {
-        let mut frame = Bytes::new(self.alloc);
-        let closing = match self.greeted(rt, input, &mut frame) {
-            Ok(client) => self.answer_all(rt, client, input, output, gate, frame),
-            Err(closing) => closing,
-        };
+        let closing = self.serve_all(rt, input, output, gate);
         output.close();
         closing
+    }
+
+    /// The same, and leaves the output open.
+    fn serve_all<R: Wait, I: FrameIn, O: FrameOut, G: Gate>(
+        &self,
+        rt: &R,
+        input: &mut I,
+        output: &mut O,
+        gate: &G,
+    ) -> Closing
+        ensures { StoppedBy T.clients (ends_at (I.left input.old) (I.ends input.old) (I.faults input.old) (O.faults output.old)) (ends_at (I.left input.new) (I.ends input.new) (I.faults input.new) (O.faults output.new)) result }
+    {
+        let mut frame = Bytes::new(self.alloc);
+        match self.greeted(rt, input, &mut frame) {
+            Ok(client) => self.answer_all(rt, client, input, output, gate, frame),
+            Err(closing) => closing,
+        }
     }
 
     /// Takes the first frame, and names its client.
@@ -80,7 +93,7 @@ impl<T: Service> Host<T> {
         input: &mut I,
         frame: &mut Bytes,
     ) -> Result<u8, Closing>
-        ensures { Greets T.clients result (record { left = I.left input.old; ends = I.ends input.old; faults = I.faults input.old }) (record { left = I.left input.new; ends = I.ends input.new; faults = I.faults input.new }) }
+        ensures { Greets T.clients result (inlet_at (I.left input.old) (I.ends input.old) (I.faults input.old)) (inlet_at (I.left input.new) (I.ends input.new) (I.faults input.new)) }
     {
         take_frame(input, frame)?;
         let client = client_named_in(self.alloc, self.clients, frame.as_slice())?;
@@ -99,7 +112,7 @@ impl<T: Service> Host<T> {
         frame: Bytes,
     ) -> Closing
         requires { IsClient T.clients client }
-        ensures { StopsBehind T.clients (record { inlet = record { left = I.left input.old; ends = I.ends input.old; faults = I.faults input.old }; faults_out = O.faults output.old }) (record { inlet = record { left = I.left input.new; ends = I.ends input.new; faults = I.faults input.new }; faults_out = O.faults output.new }) result }
+        ensures { StopsBehind T.clients (ends_at (I.left input.old) (I.ends input.old) (I.faults input.old) (O.faults output.old)) (ends_at (I.left input.new) (I.ends input.new) (I.faults input.new) (O.faults output.new)) result }
     {
         let mut frame = frame;
         for _ in rt.forever() {
@@ -121,7 +134,7 @@ impl<T: Service> Host<T> {
         frame: &mut Bytes,
     ) -> Result<(), Closing>
         requires { IsClient T.clients client }
-        ensures { Rounds T.clients (record { inlet = record { left = I.left input.old; ends = I.ends input.old; faults = I.faults input.old }; faults_out = O.faults output.old }) (record { inlet = record { left = I.left input.new; ends = I.ends input.new; faults = I.faults input.new }; faults_out = O.faults output.new }) result }
+        ensures { Rounds T.clients (ends_at (I.left input.old) (I.ends input.old) (I.faults input.old) (O.faults output.old)) (ends_at (I.left input.new) (I.ends input.new) (I.faults input.new) (O.faults output.new)) result }
     {
         take_frame(input, frame)?;
         match self.handle(rt, client, frame.as_slice())? {
@@ -165,7 +178,7 @@ impl<T: Service> Host<T> {
 
 /// Takes the next frame of the stream.
 fn take_frame<I: FrameIn>(input: &mut I, frame: &mut Bytes) -> Result<(), Closing>
-    ensures { TakesOne result (record { left = I.left input.old; ends = I.ends input.old; faults = I.faults input.old }) (record { left = I.left input.new; ends = I.ends input.new; faults = I.faults input.new }) frame.new }
+    ensures { TakesOne result (inlet_at (I.left input.old) (I.ends input.old) (I.faults input.old)) (inlet_at (I.left input.new) (I.ends input.new) (I.faults input.new)) frame.new }
 {
     match input.recv(frame) {
         Ok(Got::Frame) => Ok(()),

@@ -40,7 +40,6 @@ impl Model for Servers {
 pub struct Tried {
     pub server: Server,
     pub reply: Option<Bytes>,
-    pub ghost sendable: { IfSome reply IsFrame },
 }
 
 impl Servers {
@@ -65,10 +64,13 @@ impl Servers {
     }
 
     /// What a request of client i would do. `Turn` comes exactly where the server refuses it. The server is as before.
+    #[tactic(auto, unfolding(crate::specs::Requests::deed))]
     pub fn tried(&mut self, i: u8, request: &Request) -> Result<Tried, Closing>
         requires client { IsClient (client_count self.old) i }
         requires request { IsRequestFor (client_count self.old) request.now }
         ensures same { self.new ≡ self.old }
+        ensures count { IfOk result (λ tried. client_count tried.server ≡ client_count self.old) }
+        ensures sendable { IfOk result (λ tried. IfSome tried.reply IsFrame) }
         ensures due { MatchResult result (λ tried. deed self.old i request.now ≡ Ok (record { state = tried.server; reply = tried.reply })) (λ closing. (closing ≡ closings.Memory) ⊎ (deed_or_turn (deed self.old i request.now) ≡ Err closing)) }
     {
         let spare = match self.spare.take() {
@@ -97,7 +99,9 @@ impl Servers {
 fn tried_submit(alloc: Global, server: Server, i: u8, m: &Submit) -> Result<Tried, Closing>
     requires client { IsClient (client_count server) i }
     requires message { IsSubmitFor (client_count server) m.now }
-    ensures { MatchResult result (λ tried. deed_of_submit (submitted server i m.now) ≡ Ok (record { state = tried.server; reply = tried.reply })) (λ closing. (closing ≡ closings.Memory) ⊎ (deed_or_turn (deed_of_submit (submitted server i m.now)) ≡ Err closing)) }
+    ensures count { IfOk result (λ tried. client_count tried.server ≡ client_count server) }
+    ensures sendable { IfOk result (λ tried. IfSome tried.reply IsFrame) }
+    ensures due { MatchResult result (λ tried. deed_of_submit (submitted server i m.now) ≡ Ok (record { state = tried.server; reply = tried.reply })) (λ closing. (closing ≡ closings.Memory) ⊎ (deed_or_turn (deed_of_submit (submitted server i m.now)) ≡ Err closing)) }
 {
     let mut server = server;
     let n = server.clients();
@@ -118,7 +122,9 @@ fn tried_submit(alloc: Global, server: Server, i: u8, m: &Submit) -> Result<Trie
 fn tried_commit(server: Server, i: u8, m: &Commit) -> Result<Tried, Closing>
     requires client { IsClient (client_count server) i }
     requires message { IsCommitFor (client_count server) m.now }
-    ensures { MatchResult result (λ tried. deed_of_commit (committed server i m.now) ≡ Ok (record { state = tried.server; reply = tried.reply })) (λ closing. (closing ≡ closings.Memory) ⊎ (deed_or_turn (deed_of_commit (committed server i m.now)) ≡ Err closing)) }
+    ensures count { IfOk result (λ tried. client_count tried.server ≡ client_count server) }
+    ensures sendable { IfOk result (λ tried. IfSome tried.reply IsFrame) }
+    ensures due { MatchResult result (λ tried. deed_of_commit (committed server i m.now) ≡ Ok (record { state = tried.server; reply = tried.reply })) (λ closing. (closing ≡ closings.Memory) ⊎ (deed_or_turn (deed_of_commit (committed server i m.now)) ≡ Err closing)) }
 {
     let mut server = server;
     let copy = m.copy().map_err(|_| Closing::Memory)?;
@@ -135,6 +141,7 @@ fn tried_commit(server: Server, i: u8, m: &Commit) -> Result<Tried, Closing>
 }
 
 /// The server after a request that it accepts, where memory is found.
+#[tactic(auto, unfolding(crate::specs::Requests::deed))]
 fn followed(server: Server, i: u8, request: Request) -> Option<Server>
     requires client { IsClient (client_count server) i }
     requires request { IsRequestFor (client_count server) request }

@@ -14,8 +14,9 @@ use std::test::Fail;
 use std::thread;
 use std::thread::Threads;
 
-const HELLO_1: &[u8] = &[1, 7, 1];
-const HELLO_2: &[u8] = &[1, 7, 2];
+/// The streams that carry the HELLO of a client alone.
+const NAMES_1: &[u8] = &[0, 0, 0, 3, 1, 7, 1];
+const NAMES_2: &[u8] = &[0, 0, 0, 3, 1, 7, 2];
 
 /// The reply to the first SUBMIT of all, a write, for two clients.
 const REPLY: &[u8] = &[1, 2, 1, 0, 0, 0, 0, 0];
@@ -51,7 +52,7 @@ fn cell_refuses_by_cause<T: Counter>(
     }
     let late = cell.handle(1, &submit);
     assert!(rt; matches!(late, Err(Closing::Turn { expected: 1, got: 1 })));
-    let hello = cell.handle(1, HELLO_1);
+    let hello = cell.handle(1, &[1, 7, 1]);
     assert!(rt; matches!(hello, Err(Closing::Malformed)));
 
     let (arrivals, seat) = cell.into_parts();
@@ -66,13 +67,11 @@ fn a_cell_refuses_by_cause(rt: HostRuntime) -> Result<(), Fail> {
     cell_refuses_by_cause::<Brand>(&rt, blank)
 }
 
-/// The bytes of a stream with these frames.
-fn stream_of(alloc: Global, frames: &[&[u8]]) -> Result<Bytes, OutOfMemory> {
-    let mut bytes = Bytes::new(alloc);
-    for frame in frames {
-        bytes.append(&(frame.len() as u32).to_be_bytes())?;
-        bytes.append(frame)?;
-    }
+/// The bytes of a stream that carries the first write of a client behind these.
+fn with_first_write(alloc: Global, front: &[u8], client: u8) -> Result<Bytes, OutOfMemory> {
+    let mut bytes = Bytes::from_slice(alloc, front)?;
+    bytes.append(&[0, 0, 0, 79])?;
+    bytes.append(&first_write(client))?;
     Ok(bytes)
 }
 
@@ -109,9 +108,8 @@ fn host_stops_by_cause<T: Service, R: Wait + Abort + AllocGlobal>(
 {
     let mut root = blank.open::<T>();
     let host = Host::new(rt.alloc(), 2, root.split()?)?;
-    let submit = first_write(1);
-    let whole = stream_of(rt.alloc(), &[HELLO_1, &submit])?;
-    let unnamed = stream_of(rt.alloc(), &[&submit])?;
+    let whole = with_first_write(rt.alloc(), NAMES_1, 1)?;
+    let unnamed = with_first_write(rt.alloc(), &[], 1)?;
     let cut = &[0, 0, 0, 3, 1, 7, 2, 0, 0, 0, 9, 1];
     let cases: [(&[u8], Closing, usize); 4] = [
         (whole.as_slice(), Closing::Ended, 12),
@@ -168,8 +166,8 @@ fn held_reply<T: Service + Send + Sync, R: Threads + Wait + Abort + AllocGlobal 
 {
     let mut root = blank.open::<T>();
     let host = Host::new(rt.alloc(), 2, root.split()?)?;
-    let first = stream_of(rt.alloc(), &[HELLO_1, &first_write(1)])?;
-    let second = stream_of(rt.alloc(), &[HELLO_2, &first_write(2)])?;
+    let first = with_first_write(rt.alloc(), NAMES_1, 1)?;
+    let second = with_first_write(rt.alloc(), NAMES_2, 2)?;
     let (first, second) = thread::join(
         rt,
         || served(rt, &host, gate, first.as_slice()),
