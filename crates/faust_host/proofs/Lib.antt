@@ -10,3 +10,5 @@ pub mod Stopping
 pub mod Telling
 -- that a reply can be sent
 pub mod Sized
+-- what is due, step by step
+pub mod Handling

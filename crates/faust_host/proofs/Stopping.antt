@@ -1,12 +1,11 @@
 -- Why a connection stopped, from the pieces of which serving it is made.
-use Rattle.std.proofs.Common.{◌≡◌, ℕ, List, [], ◌∷◌, ◌++◌, Option, Some, None, Ok, Err, IfSome, IsNone, refl, sym, ap, ◌∙◌, subst, inl, inr}
+use Rattle.std.proofs.Common.{◌≡◌, ℕ, List, [], ◌∷◌, ◌++◌, Option, Some, None, Ok, Err, IfSome, IsSome, IsNone, refl, sym, ap, ◌∙◌, subst, inl, inr}
 use Rattle.std.specs.List.{AllByRecursion}
 use Rattle.std.specs.Io.KnownBytes.{Consumes, IsAtEnd, Keeps}
 use Rattle.faust_io.specs.Faults.{CountsFault}
 use Rattle.faust_types.specs.declared.arrival.Closing.{Closing}
 use Rattle.faust_types.specs.declared.arrival.Closing.TheVariants as closings
-use Rattle.faust_wire.specs.Grammar.{hello_bytes}
-use Rattle.faust_host.specs.Requests.{request_in}
+use Rattle.faust_host.specs.Requests.{client_in, request_in}
 use Rattle.faust_host.specs.Connections.{AreInPlace, Ends, EndsWithRequest, Inlet, IsAtEndIfTold, IsFaultless, IsQuiet, IsRequest, StoppedBy, Took}
 use Rattle.faust_host.specs.Rounds.{Answered, AnsweredSome, EndedRound, FoundEnd, GreetedBy, Greets, RequestRound, Rounds, StopsBehind, TookOne, TookRound}
 use Rattle.faust_host.proofs.Growing.{all_snoc}
@@ -76,20 +75,21 @@ stopped_greeting n a b closings.Memory found out = record {
   no_end = found.ends;
   faultless = record { input = found.faults; output = out };
 }
-stopped_greeting n a b closings.Malformed (frame, wrong) out = (
+stopped_greeting n a b closings.Malformed wrong out = (
   [],
-  frame,
+  wrong.frame,
   record {
-    taken = takes_one a.inlet b.inlet frame wrong.taken;
+    taken = takes_one a.inlet b.inlet wrong.frame wrong.taken;
     in_place = tt;
-    out_of_place = wrong.no_hello;
-    quiet = quiet_one a b frame wrong.taken out;
+    out_of_place = subst IsNone (sym wrong.none) tt;
+    quiet = quiet_one a b wrong.frame wrong.taken out;
   },
 )
 stopped_greeting n a b (closings.Named client) greeted out = record {
-  in_range = greeted.in_range;
-  taken = takes_one a.inlet b.inlet (hello_bytes 1 client) greeted.taken;
-  quiet = quiet_one a b (hello_bytes 1 client) greeted.taken out;
+  frame = greeted.frame;
+  named = greeted.named;
+  taken = takes_one a.inlet b.inlet greeted.frame greeted.taken;
+  quiet = quiet_one a b greeted.frame greeted.taken out;
 }
 stopped_greeting n a b (closings.Turn expected got) never out = absurd never
 stopped_greeting n a b closings.Full never out = absurd never
@@ -102,12 +102,12 @@ record Begun (n : ℕ) (a now : Ends) (first : List ℕ) (requests : List (List 
   pub in_place : AreInPlace n (first ∷ requests)
   pub quiet : IsQuiet a now
 
-begun : (n : ℕ) (a b now : Ends) (client : ℕ) (requests : List (List ℕ)) → GreetedBy n a.inlet b.inlet client
-    → b.faults_out ≡ a.faults_out → AnsweredSome n b now requests → Begun n a now (hello_bytes 1 client) requests
-begun n a b now client requests greeted out some = record {
-  taken = takes_behind a.inlet b.inlet now.inlet (hello_bytes 1 client) requests greeted.taken some.taken;
-  in_place = (record { client = client; in_range = greeted.in_range; spelled = refl }, some.each);
-  quiet = quiet_more a b now (quiet_one a b (hello_bytes 1 client) greeted.taken out) some.quiet;
+begun : (n : ℕ) (a b now : Ends) (client : ℕ) (first : List ℕ) (requests : List (List ℕ)) → client_in n first ≡ Some client
+    → TookOne a.inlet b.inlet first → b.faults_out ≡ a.faults_out → AnsweredSome n b now requests → Begun n a now first requests
+begun n a b now client first requests named taken out some = record {
+  taken = takes_behind a.inlet b.inlet now.inlet first requests taken some.taken;
+  in_place = (subst IsSome (sym named) tt, some.each);
+  quiet = quiet_more a b now (quiet_one a b first taken out) some.quiet;
 }
 
 request_last : (n : ℕ) (a now c : Ends) (first : List ℕ) (requests : List (List ℕ)) → Begun n a now first requests
@@ -160,4 +160,5 @@ stopped_round n a now c first requests (closings.Failed notice) so_far never = a
 pub stopped_behind : (n : ℕ) (a b c : Ends) (client : ℕ) (closing : Closing) → GreetedBy n a.inlet b.inlet client
     → b.faults_out ≡ a.faults_out → StopsBehind n b c closing → StoppedBy n a c closing
 stopped_behind n a b c client closing greeted out (now, (requests, some), round) =
-    stopped_round n a now c (hello_bytes 1 client) requests closing (begun n a b now client requests greeted out some) round
+    let so_far = begun n a b now client greeted.frame requests greeted.named greeted.taken out some in
+    stopped_round n a now c greeted.frame requests closing so_far round

@@ -1,21 +1,17 @@
 -- Why a host stopped to serve a connection, and which frames it took until then. The clause of `Host::serve` rests on this
 -- file.
-use Rattle.std.specs.Prelude.{◌≡◌, ℕ, ◌⊎◌, List, [], ◌∷◌, ◌++◌, Option, IsSome, IsNone, IfSome}
+use Rattle.std.specs.Prelude.{◌≡◌, ℕ, ◌⊎◌, List, [], ◌∷◌, ◌++◌, Option, Some, IsSome, IsNone, IfSome}
 use Rattle.std.specs.List.{AllByRecursion}
 use Rattle.std.specs.Io.KnownBytes.{Consumes, IsAtEnd}
 use Rattle.faust_io.specs.Faults.{CountsFault}
 use Rattle.faust_link.specs.Frames.{AreFrames, stream_of}
-use Rattle.faust_types.specs.Clients.{IsClient}
 use Rattle.faust_types.specs.declared.arrival.Closing.{Closing}
 use Rattle.faust_types.specs.declared.arrival.Closing.TheVariants as closings
-use Rattle.faust_wire.specs.Grammar.{hello_bytes}
-use Rattle.faust_host.specs.Requests.{request_in}
+use Rattle.faust_host.specs.Requests.{client_in, request_in}
 
--- A connection begins with the HELLO of one of n clients, and goes on with requests.
-pub record IsHello (n : ℕ) (frame : List ℕ) : Type 0 where
-  pub client : ℕ
-  pub in_range : IsClient n client
-  pub spelled : frame ≡ hello_bytes 1 client
+-- A connection begins with a frame that names one of n clients, and goes on with requests.
+abbrev pub IsHello : ℕ → List ℕ → Type 0
+IsHello n frame = IsSome (client_in n frame)
 
 abbrev pub IsRequest : ℕ → List ℕ → Type 0
 IsRequest n frame = IsSome (request_in n frame)
@@ -24,9 +20,9 @@ abbrev pub AreInPlace : ℕ → List (List ℕ) → Type 0
 AreInPlace n [] = Unit {0}
 AreInPlace n (first ∷ rest) = IsHello n first × AllByRecursion (IsRequest n) rest
 
--- A frame may not stand behind these: it comes first and is no HELLO, or later and is no request.
+-- A frame may not stand behind these: it comes first and names no client, or later and is no request.
 abbrev pub IsOutOfPlace : ℕ → List (List ℕ) → List ℕ → Type 0
-IsOutOfPlace n [] frame = IsHello n frame → ⊥
+IsOutOfPlace n [] frame = IsNone (client_in n frame)
 IsOutOfPlace n (first ∷ rest) frame = IsNone (request_in n frame)
 
 -- The end of a connection at which frames come out: the bytes that are left, where they are told, and its two counts.
@@ -79,10 +75,11 @@ pub record IsMisplaced (n : ℕ) (before after : Ends) (frames : List (List ℕ)
   pub out_of_place : IsOutOfPlace n frames last
   pub quiet : IsQuiet before after
 
--- The one frame that was taken is the HELLO of this client.
+-- The one frame that was taken names this client.
 pub record IsNamedAlone (n : ℕ) (before after : Ends) (client : ℕ) : Type 0 where
-  pub in_range : IsClient n client
-  pub taken : Took before.inlet after.inlet (hello_bytes 1 client ∷ [])
+  pub frame : List ℕ
+  pub named : client_in n frame ≡ Some client
+  pub taken : Took before.inlet after.inlet (frame ∷ [])
   pub quiet : IsQuiet before after
 
 -- All frames that were taken stood in their places, and the last is a request.

@@ -23,6 +23,18 @@ asked_by (Some (messages.Hello client)) = None
 unfoldable pub request_in : ℕ → List ℕ → Option Request
 request_in n bytes = asked_by (message_of 1 n bytes)
 
+-- The client that bytes name: that of a HELLO that they spell for n clients.
+abbrev pub named_by : Option Message → Option ℕ
+named_by None = None
+named_by (Some (messages.Submit m)) = None
+named_by (Some (messages.Commit m)) = None
+named_by (Some (messages.Reply m)) = None
+named_by (Some (messages.Peer m)) = None
+named_by (Some (messages.Hello client)) = Some client
+
+unfoldable pub client_in : ℕ → List ℕ → Option ℕ
+client_in n bytes = named_by (message_of 1 n bytes)
+
 -- A request is in range for n clients.
 abbrev pub IsRequestFor : ℕ → Request → Type 0
 IsRequestFor n (requests.Submit m) = IsSubmitFor n m

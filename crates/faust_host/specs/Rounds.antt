@@ -1,17 +1,15 @@
 -- The pieces of which serving a connection is made. This only helps proofs: why a connection stopped stands in `Connections`.
-use Rattle.std.specs.Prelude.{◌≡◌, ℕ, ◌⊎◌, List, [], ◌∷◌, ◌++◌, Option, IsNone, Result, Ok, Err}
+use Rattle.std.specs.Prelude.{◌≡◌, ℕ, ◌⊎◌, List, [], ◌∷◌, ◌++◌, Option, Some, None, IsNone, Result, Ok, Err}
 use Rattle.std.specs.List.{AllByRecursion}
 use Rattle.std.specs.Io.KnownBytes.{IsAtEnd, Keeps}
 use Rattle.faust_io.specs.Faults.{CountsFault}
 use Rattle.faust_link.specs.Links.{TakesFrame}
 use Rattle.faust_link.specs.declared.answers.LinkError.{LinkError}
 use Rattle.faust_link.specs.declared.answers.LinkError.TheVariants as links
-use Rattle.faust_types.specs.Clients.{IsClient}
 use Rattle.faust_types.specs.declared.arrival.Closing.{Closing}
 use Rattle.faust_types.specs.declared.arrival.Closing.TheVariants as closings
-use Rattle.faust_wire.specs.Grammar.{hello_bytes}
-use Rattle.faust_host.specs.Requests.{request_in}
-use Rattle.faust_host.specs.Connections.{Inlet, Ends, Took, IsFaultless, IsQuiet, IsHello, IsRequest}
+use Rattle.faust_host.specs.Requests.{client_in, request_in}
+use Rattle.faust_host.specs.Connections.{Inlet, Ends, Took, IsQuiet, IsRequest}
 
 -- How a link that did nothing stops a connection.
 abbrev pub stop_of : LinkError → Closing
@@ -49,19 +47,21 @@ TakesOne (Err (closings.Failed notice)) before after frame = ⊥
 
 -- Taking the first frame, and naming its client.
 pub record GreetedBy (n : ℕ) (before after : Inlet) (client : ℕ) : Type 0 where
-  pub in_range : IsClient n client
-  pub taken : TookOne before after (hello_bytes 1 client)
-
-pub record IsNoHello (n : ℕ) (before after : Inlet) (frame : List ℕ) : Type 0 where
+  pub frame : List ℕ
+  pub named : client_in n frame ≡ Some client
   pub taken : TookOne before after frame
-  pub no_hello : IsHello n frame → ⊥
+
+pub record NamesNone (n : ℕ) (before after : Inlet) : Type 0 where
+  pub frame : List ℕ
+  pub none : client_in n frame ≡ None
+  pub taken : TookOne before after frame
 
 abbrev pub Greets : ℕ → Result ℕ Closing → Inlet → Inlet → Type 0
 Greets n (Ok client) before after = GreetedBy n before after client
 Greets n (Err closings.Ended) before after = FoundEnd before after
 Greets n (Err closings.Link) before after = CountsFault before.faults after.faults
 Greets n (Err closings.Memory) before after = FoundNoMemory before after
-Greets n (Err closings.Malformed) before after = (frame : List ℕ) × IsNoHello n before after frame
+Greets n (Err closings.Malformed) before after = NamesNone n before after
 Greets n (Err (closings.Named client)) before after = GreetedBy n before after client
 Greets n (Err (closings.Turn expected got)) before after = ⊥
 Greets n (Err closings.Full) before after = ⊥

@@ -69,12 +69,12 @@ impl<T: Counter> ArrivalLog<T> {
         let place = usize::from(i) - 1;
         let message = Bytes::from_slice(*self.arrivals.allocator(), bytes)?;
         self.arrivals.reserve(1)?;
-        let arrival = Arrival {
-            number: self.seat.draw(),
+        let number = self.seat.draw();
+        self.arrivals.push_reserved(Arrival {
+            number,
             client: i,
             message,
-        };
-        self.arrivals.push_reserved(arrival);
+        });
         self.counts.set(place, *self.counts.at(place) + 1);
         Ok(())
     }

@@ -11,7 +11,7 @@ ghost use Rattle.faust_host.specs.Connections.{StoppedBy, ends_at, inlet_at};
 ghost use Rattle.faust_host.specs.Rounds.{Greets, Rounds, StopsBehind, TakesOne, TellsOf, SendStopped, stop_of};
 
 use crate::gate::Gate;
-use crate::greeting::client_named_in;
+use crate::greeting::client_in;
 use crate::host_cell::HostCell;
 use crate::service::Service;
 use faust_link::{FrameIn, FrameOut, Got, LinkError};
@@ -96,7 +96,7 @@ impl<T: Service> Host<T> {
         ensures { Greets T.clients result (inlet_at (I.left input.old) (I.ends input.old) (I.faults input.old)) (inlet_at (I.left input.new) (I.ends input.new) (I.faults input.new)) }
     {
         take_frame(input, frame)?;
-        let client = client_named_in(self.alloc, self.clients, frame.as_slice())?;
+        let client = client_in(self.alloc, self.clients, frame.as_slice())?;
         self.name(rt, client)?;
         Ok(client)
     }

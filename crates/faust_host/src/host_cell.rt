@@ -75,11 +75,10 @@ impl<T: Counter> HostCell<T> {
             return Err(Closing::Full);
         }
         let tried = self.servers.tried(i, &request)?;
-        if self.log.append(i, bytes).is_err() {
+        let Ok(()) = self.log.append(i, bytes) else {
             return Err(Closing::Memory);
-        }
-        self.servers.settle(i, request, tried.server);
-        Ok(tried.reply)
+        };
+        Ok(self.servers.settle(i, request, tried))
     }
 
     /// The arrivals and the seat, with all that they keep. It takes no memory.

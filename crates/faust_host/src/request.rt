@@ -28,7 +28,10 @@ pub fn request_in(alloc: Global, n: u8, bytes: &[u8]) -> Result<Request, Closing
     match decode(alloc, WIRE, n, bytes) {
         Ok(Message::Submit(m)) => Ok(Request::Submit(m)),
         Ok(Message::Commit(m)) => Ok(Request::Commit(m)),
-        Ok(_) | Err(WireError::Malformed) => Err(Closing::Malformed),
+        Ok(Message::Reply(_)) => Err(Closing::Malformed),
+        Ok(Message::Peer(_)) => Err(Closing::Malformed),
+        Ok(Message::Hello(_)) => Err(Closing::Malformed),
+        Err(WireError::Malformed) => Err(Closing::Malformed),
         Err(WireError::OutOfMemory) => Err(Closing::Memory),
     }
 }

@@ -6,6 +6,7 @@ ghost use Rattle.faust_types.specs.declared.arrival.Closing.TheVariants as closi
 ghost use Rattle.faust_link.specs.Frames.{IsFrame};
 ghost use Rattle.faust_server.specs.Rows.{State, client_count, first_state, submitted, committed};
 ghost use Rattle.faust_host.specs.Requests.{Deed, IsRequestFor, deed, deed_of_submit, deed_of_commit};
+ghost use Rattle.faust_host.specs.Arriving.{state_of};
 ghost use Rattle.faust_host.specs.Cells.{deed_or_turn};
 
 use crate::request::{Request, WIRE};
@@ -73,25 +74,37 @@ impl Servers {
         ensures sendable { IfOk result (λ tried. IfSome tried.reply IsFrame) }
         ensures due { MatchResult result (λ tried. deed self.old i request.now ≡ Ok (record { state = tried.server; reply = tried.reply })) (λ closing. (closing ≡ closings.Memory) ⊎ (deed_or_turn (deed self.old i request.now) ≡ Err closing)) }
     {
-        let spare = match self.spare.take() {
-            Some(spare) => spare,
-            None => self.server.copy().map_err(|_| Closing::Memory)?,
+        let Ok(draft) = self.draft() else {
+            return Err(Closing::Memory);
         };
         match request {
-            Request::Submit(m) => tried_submit(self.alloc, spare, i, m),
-            Request::Commit(m) => tried_commit(spare, i, m),
+            Request::Submit(m) => tried_submit(self.alloc, draft, i, m),
+            Request::Commit(m) => tried_commit(draft, i, m),
         }
     }
 
-    /// Does a request of client i that was tried, and lets the server from before follow.
-    pub fn settle(&mut self, i: u8, request: Request, after: Server)
+    /// Does a request of client i that was tried, lets the server from before follow, and answers the reply.
+    pub fn settle(&mut self, i: u8, request: Request, tried: Tried) -> Option<Bytes>
         requires client { IsClient (client_count self.old) i }
         requires request { IsRequestFor (client_count self.old) request }
-        requires tried { IfOk (deed self.old i request) (λ done. done.state ≡ after) }
-        ensures { self.new ≡ after }
+        requires tried { deed self.old i request ≡ Ok (record { state = tried.server; reply = tried.reply }) }
+        ensures after { self.new ≡ tried.server }
+        ensures reply { result ≡ tried.reply }
     {
-        let before = std::mem::replace(&mut self.server, after);
+        let before = std::mem::replace(&mut self.server, tried.server);
         self.spare = followed(before, i, request);
+        tried.reply
+    }
+
+    /// A server that is equal to this one.
+    fn draft(&mut self) -> Result<Server, OutOfMemory>
+        ensures equal { IfOk result (λ draft. draft ≡ self.old) }
+        ensures same { self.new ≡ self.old }
+    {
+        match self.spare.take() {
+            Some(spare) => Ok(spare),
+            None => self.server.copy(),
+        }
     }
 }
 
@@ -105,13 +118,17 @@ fn tried_submit(alloc: Global, server: Server, i: u8, m: &Submit) -> Result<Trie
 {
     let mut server = server;
     let n = server.clients();
-    let copy = m.copy().map_err(|_| Closing::Memory)?;
+    let Ok(copy) = m.copy() else {
+        return Err(Closing::Memory);
+    };
     let reply = match server.submit(i, copy) {
         Ok(reply) => reply,
         Err(ServerError::OutOfTurn { expected, got }) => return Err(Closing::Turn { expected, got }),
         Err(ServerError::OutOfMemory) => return Err(Closing::Memory),
     };
-    let bytes = encode(alloc, WIRE, n, &Message::Reply(reply)).map_err(|_| Closing::Memory)?;
+    let Ok(bytes) = encode(alloc, WIRE, n, &Message::Reply(reply)) else {
+        return Err(Closing::Memory);
+    };
     Ok(Tried {
         server,
         reply: Some(bytes),
@@ -127,7 +144,9 @@ fn tried_commit(server: Server, i: u8, m: &Commit) -> Result<Tried, Closing>
     ensures due { MatchResult result (λ tried. deed_of_commit (committed server i m.now) ≡ Ok (record { state = tried.server; reply = tried.reply })) (λ closing. (closing ≡ closings.Memory) ⊎ (deed_or_turn (deed_of_commit (committed server i m.now)) ≡ Err closing)) }
 {
     let mut server = server;
-    let copy = m.copy().map_err(|_| Closing::Memory)?;
+    let Ok(copy) = m.copy() else {
+        return Err(Closing::Memory);
+    };
     match server.commit(i, copy) {
         Ok(()) => Ok(Tried {
             server,
@@ -145,12 +164,17 @@ fn tried_commit(server: Server, i: u8, m: &Commit) -> Result<Tried, Closing>
 fn followed(server: Server, i: u8, request: Request) -> Option<Server>
     requires client { IsClient (client_count server) i }
     requires request { IsRequestFor (client_count server) request }
-    ensures { IfSome result (λ after. IfOk (deed server i request) (λ done. done.state ≡ after)) }
+    ensures { IfSome result (λ after. state_of (deed server i request) ≡ Some after) }
 {
     let mut server = server;
-    let is_done = match request {
-        Request::Submit(m) => server.submit(i, m).is_ok(),
-        Request::Commit(m) => server.commit(i, m).is_ok(),
-    };
-    if is_done { Some(server) } else { None }
+    match request {
+        Request::Submit(m) => match server.submit(i, m) {
+            Ok(_) => Some(server),
+            Err(_) => None,
+        },
+        Request::Commit(m) => match server.commit(i, m) {
+            Ok(()) => Some(server),
+            Err(_) => None,
+        },
+    }
 }
