@@ -1,8 +1,8 @@
 -- One more arrival: the replay goes on with it, and a log keeps what it keeps.
-use Rattle.std.proofs.Common.{◌≡◌, ℕ, ◌+◌, ◌-◌, ◌*◌, ◌^◌, ◌<◌, ◌≤◌, zero, suc, List, [], ◌∷◌, ◌++◌, length, map, slice_index, slice_set, Option, Some, None, Result, Ok, Err, refl, sym, ap, ◌∙◌, subst, inl, inr, arith, length-append}
-use Rattle.std.proofs.lemmas.List.{map-append, get_or-set_other}
+use Rattle.std.proofs.Common.{◌≡◌, ℕ, ◌+◌, ◌-◌, ◌*◌, ◌^◌, ◌<◌, ◌≤◌, zero, suc, List, [], ◌∷◌, ◌++◌, length, map, slice_index, slice_set, Option, Some, None, Result, Ok, Err, false, refl, sym, ap, ◌∙◌, subst, inl, inr, arith, length-append}
+use Rattle.std.proofs.lemmas.List.{map-append, get_or-set_other, length-set}
 use Rattle.std.proofs.lemmas.Grind.{get_or-set_at}
-use Rattle.std.proofs.lemmas.Bool.{cases_eq}
+use Rattle.std.proofs.lemmas.Bool.{cases_eq, leb-false}
 use Rattle.std.specs.List.{AllByRecursion}
 use Rattle.faust_types.specs.Clients.{IsClient, IsClientCount}
 use Rattle.faust_types.specs.declared.arrival.Arrival.{Arrival}
@@ -11,6 +11,8 @@ use Rattle.faust_server.specs.Rows.{State, first_state}
 use Rattle.faust_host.specs.declared.request.Request.{Request}
 use Rattle.faust_host.specs.Requests.{Deed, deed, request_in}
 use Rattle.faust_host.specs.Arriving.{AreNumbered, after_arrival, arrivals_of, numbers_of, replay, replayed, state_after, state_of}
+use Rattle.faust_host.specs.Cells.{is_full}
+use Rattle.faust_host.specs.Logs.{Log, IsCounted}
 use Rattle.faust_host.proofs.Counting.{arrivals_of-push_own, arrivals_of-push_other, length-bound}
 
 replayed-snoc : (n : ℕ) (st : Option State) (xs : List Arrival) (a : Arrival)
@@ -91,3 +93,35 @@ counted-push n i bytes number counts xs of_i sized counted k of_k =
           let other = get_or-set_other counts (i - 1) (k - 1) (slice_index counts (i - 1) + 1) 0 (λ e. ne (omega (arith, e, here, there))) in
           omega (arith, kept, before, other)
     ]
+
+-- a log stays one after an arrival of a client that isn't full
+abbrev seen : List ℕ → List Arrival → SeatView → Log
+seen counts xs seat = record { clients = length counts; arrivals = xs; seat = seat }
+
+push_counted : (counts : List ℕ) (xs : List Arrival) (seat : SeatView) (i number : ℕ) (bytes : List ℕ)
+    → IsCounted counts (seen counts xs seat) → IsClient (length counts) i → is_full i xs ≡ false
+    → IsCounted
+      (slice_set counts (i - 1) (slice_index counts (i - 1) + 1))
+      (record {
+        clients = length counts;
+        arrivals = xs ++ record { number = number; client = i; message = bytes } ∷ [];
+        seat = after_draw seat number;
+      })
+push_counted counts xs seat i number bytes is of_i room = record {
+  clients_count = is.clients_count;
+  numbered = numbered-push (length counts) i bytes number xs seat is.clients_count of_i is.numbered (leb-false 200000 (arrivals_of i xs) room);
+  counted = counted-push (length counts) i bytes number counts xs of_i refl is.counted;
+}
+
+pub counted_after : (counts after : List ℕ) (xs all : List Arrival) (seat drawn : SeatView) (now : Log) (i number : ℕ) (bytes : List ℕ)
+    → seen counts xs seat ≡ now → IsCounted counts (seen counts xs seat) → IsClient now.clients i → is_full i now.arrivals ≡ false
+    → after ≡ slice_set counts (i - 1) (slice_index counts (i - 1) + 1)
+    → all ≡ xs ++ record { number = number; client = i; message = bytes } ∷ [] → drawn ≡ after_draw seat number
+    → IsCounted after (seen after all drawn)
+counted_after counts after xs all seat drawn now i number bytes view is of_i room counts_is all_is drawn_is =
+    let of_i' : IsClient (length counts) i = subst (λ (log : Log). IsClient log.clients i) (sym view) of_i in
+    let room' : is_full i xs ≡ false = subst (λ (log : Log). is_full i log.arrivals ≡ false) (sym view) room in
+    let pushed = push_counted counts xs seat i number bytes is of_i' room' in
+    let sized : length after ≡ length counts =
+      ap length counts_is ∙ length-set counts (i - 1) (slice_index counts (i - 1) + 1) in
+    rw (sized, counts_is, all_is, drawn_is) pushed

@@ -12,3 +12,7 @@ pub mod Telling
 pub mod Sized
 -- what is due, step by step
 pub mod Handling
+-- the causes that a cell gives
+pub mod Refusing
+-- one round of a connection
+pub mod Rounding

@@ -81,7 +81,7 @@ stopped_greeting n a b closings.Malformed wrong out = (
   record {
     taken = takes_one a.inlet b.inlet wrong.frame wrong.taken;
     in_place = tt;
-    out_of_place = subst IsNone (sym wrong.none) tt;
+    out_of_place = subst IsNone (sym wrong.none) refl;
     quiet = quiet_one a b wrong.frame wrong.taken out;
   },
 )
@@ -106,7 +106,7 @@ begun : (n : ℕ) (a b now : Ends) (client : ℕ) (first : List ℕ) (requests :
     → TookOne a.inlet b.inlet first → b.faults_out ≡ a.faults_out → AnsweredSome n b now requests → Begun n a now first requests
 begun n a b now client first requests named taken out some = record {
   taken = takes_behind a.inlet b.inlet now.inlet first requests taken some.taken;
-  in_place = (subst IsSome (sym named) tt, some.each);
+  in_place = (subst IsSome (sym named) refl, some.each);
   quiet = quiet_more a b now (quiet_one a b first taken out) some.quiet;
 }
 

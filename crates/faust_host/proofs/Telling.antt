@@ -11,17 +11,17 @@ use Rattle.faust_host.specs.Rounds.{TellsOf}
 
 -- bytes that ask something are a request
 asks : (n : ℕ) (bytes : List ℕ) (request : Request) → request_in n bytes ≡ Some request → IsRequest n bytes
-asks n bytes request is = subst IsSome (sym is) tt
+asks n bytes request is = subst IsSome (sym is) refl
 
 asks_nothing : (n : ℕ) (bytes : List ℕ) → request_in n bytes ≡ None → IsNone (request_in n bytes)
-asks_nothing n bytes is = subst IsNone (sym is) tt
+asks_nothing n bytes is = subst IsNone (sym is) refl
 
-ok_is_no_err : (done : Deed) (closing : Closing) → Ok {E = Closing} done ≡ Err closing → ⊥
-ok_is_no_err done closing same = cc
+ok_is_no_err : (result : Result Deed Closing) (done : Deed) (closing : Closing) → result ≡ Ok done → result ≡ Err closing → ⊥
+ok_is_no_err result done closing is_ok is_err = cc
 
 turn_tells : (n : ℕ) (bytes : List ℕ) (request : Request) (closing : Closing) (result : Result Deed OutOfTurn)
     → request_in n bytes ≡ Some request → deed_or_turn result ≡ Err closing → TellsOf n bytes (Err closing)
-turn_tells n bytes request closing (Ok done) is due = absurd (ok_is_no_err done closing due)
+turn_tells n bytes request closing (Ok done) is due = absurd (ok_is_no_err (deed_or_turn (Ok done)) done closing refl due)
 turn_tells n bytes request closing (Err refused) is due =
     let e : closings.Turn refused.expected refused.got ≡ closing = cc in
     subst (λ (c : Closing). TellsOf n bytes (Err c)) e (asks n bytes request is)
@@ -45,7 +45,7 @@ due_tells n i bytes cell closing (Some request) is due =
 
 done_tells : (n i : ℕ) (bytes : List ℕ) (cell : Cell) (done : Deed) (asked : Option Request) → request_in n bytes ≡ asked
     → due_to cell i asked ≡ Ok done → IsRequest n bytes
-done_tells n i bytes cell done None is due = absurd (ok_is_no_err done closings.Malformed (sym due))
+done_tells n i bytes cell done None is due = absurd (ok_is_no_err (due_to cell i None) done closings.Malformed due refl)
 done_tells n i bytes cell done (Some request) is due = asks n bytes request is
 
 refused_tells : (n i : ℕ) (bytes : List ℕ) (old new : Cell) (closing : Closing) → old.clients ≡ n → Refuses old new i bytes closing

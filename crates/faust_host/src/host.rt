@@ -93,7 +93,8 @@ impl<T: Service> Host<T> {
         input: &mut I,
         frame: &mut Bytes,
     ) -> Result<u8, Closing>
-        ensures { Greets T.clients result (inlet_at (I.left input.old) (I.ends input.old) (I.faults input.old)) (inlet_at (I.left input.new) (I.ends input.new) (I.faults input.new)) }
+        ensures in_range { IfOk result (IsClient T.clients) }
+        ensures greets { Greets T.clients result (inlet_at (I.left input.old) (I.ends input.old) (I.faults input.old)) (inlet_at (I.left input.new) (I.ends input.new) (I.faults input.new)) }
     {
         take_frame(input, frame)?;
         let client = client_in(self.alloc, self.clients, frame.as_slice())?;
@@ -116,8 +117,9 @@ impl<T: Service> Host<T> {
     {
         let mut frame = frame;
         for _ in rt.forever() {
-            if let Err(closing) = self.answer_next(rt, client, input, output, gate, &mut frame) {
-                return closing;
+            match self.answer_next(rt, client, input, output, gate, &mut frame) {
+                Ok(()) => {}
+                Err(closing) => return closing,
             }
         }
         unreachable!()
