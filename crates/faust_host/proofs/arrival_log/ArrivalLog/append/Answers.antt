@@ -1,4 +1,4 @@
-use Rattle.std.proofs.Common.{rules}
+use Rattle.std.proofs.Common.{refl}
 use Rattle.faust_host.proofs.Growing.{counted_after}
 use Rattle.faust_host.proofs.arrival_log.ArrivalLog.append.Goals as goal
 
@@ -21,7 +21,7 @@ invariant_of-self-2 g c =
       c.requires.client
       c.requires.room
       (cc)
-      (cc)
+      (rw (c.push_reserved.ensures.items, c.reserve.ensures.items, c.in_ok-message.ensures) refl)
       c.draw-number.ensures.taken
 
 pub returns-clause-kept : goal.returns-clause-kept
@@ -43,6 +43,6 @@ returns-clause-kept g c =
       c.requires.client
       c.requires.room
       (cc)
-      (cc)
+      (rw (c.push_reserved.ensures.items, c.reserve.ensures.items, c.in_ok-message.ensures) refl)
       c.draw-number.ensures.taken in
     after.numbered
