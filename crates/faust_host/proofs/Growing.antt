@@ -74,7 +74,7 @@ numbered-push n i bytes number xs seat count in_range kept room =
 pub counted-push : (n i : ℕ) (bytes : List ℕ) (number : ℕ) (counts : List ℕ) (xs : List Arrival) → IsClient n i → length counts ≡ n
     → ((k : ℕ) → IsClient n k → slice_index counts (k - 1) ≡ arrivals_of k xs) → (k : ℕ) → IsClient n k
     → slice_index (slice_set counts (i - 1) (slice_index counts (i - 1) + 1)) (k - 1)
-        ≡ arrivals_of k (xs ++ record { number = number; client = i; message = bytes } ∷ [])
+    ≡ arrivals_of k (xs ++ record { number = number; client = i; message = bytes } ∷ [])
 counted-push n i bytes number counts xs of_i sized counted k of_k =
     let a : Arrival = record { number = number; client = i; message = bytes } in
     let here = of_i.from_one in
@@ -101,12 +101,12 @@ seen counts xs seat = record { clients = length counts; arrivals = xs; seat = se
 push_counted : (counts : List ℕ) (xs : List Arrival) (seat : SeatView) (i number : ℕ) (bytes : List ℕ)
     → IsCounted counts (seen counts xs seat) → IsClient (length counts) i → is_full i xs ≡ false
     → IsCounted
-      (slice_set counts (i - 1) (slice_index counts (i - 1) + 1))
-      (record {
-        clients = length counts;
-        arrivals = xs ++ record { number = number; client = i; message = bytes } ∷ [];
-        seat = after_draw seat number;
-      })
+    (slice_set counts (i - 1) (slice_index counts (i - 1) + 1))
+    (record {
+      clients = length counts;
+      arrivals = xs ++ record { number = number; client = i; message = bytes } ∷ [];
+      seat = after_draw seat number;
+    })
 push_counted counts xs seat i number bytes is of_i room = record {
   clients_count = is.clients_count;
   numbered = numbered-push (length counts) i bytes number xs seat is.clients_count of_i is.numbered (leb-false 200000 (arrivals_of i xs) room);
@@ -123,5 +123,5 @@ counted_after counts after xs all seat drawn now i number bytes view is of_i roo
     let room' : is_full i xs ≡ false = subst (λ (log : Log). is_full i log.arrivals ≡ false) (sym view) room in
     let pushed = push_counted counts xs seat i number bytes is of_i' room' in
     let sized : length after ≡ length counts =
-      ap length counts_is ∙ length-set counts (i - 1) (slice_index counts (i - 1) + 1) in
+    ap length counts_is ∙ length-set counts (i - 1) (slice_index counts (i - 1) + 1) in
     rw (sized, counts_is, all_is, drawn_is) pushed

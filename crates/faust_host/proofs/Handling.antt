@@ -100,6 +100,6 @@ pub cell_after : (inside cell : Cell) (n i : ℕ) (bytes : List ℕ) (number : �
     → IsCell (record { clients = log.clients; named = inside.named; server = server; arrivals = log.arrivals; seat = log.seat })
 cell_after inside cell n i bytes number request done server log view is of_n asks does counts server_is log_is numbered =
     let kept : AreNumbered inside.clients (inside.arrivals ++ record { number = number; client = i; message = bytes } ∷ [])
-      (after_draw inside.seat number) = subst (λ (l : Log). AreNumbered l.clients l.arrivals l.seat) log_is numbered in
+    (after_draw inside.seat number) = subst (λ (l : Log). AreNumbered l.clients l.arrivals l.seat) log_is numbered in
     let after = cell_done inside n i bytes number request done is (of_n ∙ is.server_paired) asks does counts kept in
     rw (log_is, server_is) after

@@ -59,5 +59,5 @@ pub handles_tell : (n i : ℕ) (bytes : List ℕ) (old new : Cell) (result : Res
     → Handles result old new i bytes → TellsOf n bytes result
 handles_tell n i bytes old new (Ok reply) of_n accepted =
     done_tells n i bytes old (record { state = new.server; reply = reply }) (request_in n bytes) refl
-        (subst (λ k. due_to old i (request_in k bytes) ≡ Ok (record { state = new.server; reply = reply })) of_n accepted.done)
+    (subst (λ k. due_to old i (request_in k bytes) ≡ Ok (record { state = new.server; reply = reply })) of_n accepted.done)
 handles_tell n i bytes old new (Err closing) of_n refused = refused_tells n i bytes old new closing of_n refused

@@ -157,12 +157,7 @@ impl<T: Service> Host<T> {
     }
 
     /// Handles the bytes of a client, under the lock.
-    fn handle<R: Wait>(
-        &self,
-        rt: &R,
-        client: u8,
-        bytes: &[u8],
-    ) -> Result<Option<Bytes>, Closing>
+    fn handle<R: Wait>(&self, rt: &R, client: u8, bytes: &[u8]) -> Result<Option<Bytes>, Closing>
         requires { IsClient T.clients client }
         ensures tells { TellsOf T.clients bytes.now result }
         ensures sendable { IfOk result (λ reply. IfSome reply IsFrame) }

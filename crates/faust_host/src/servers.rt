@@ -123,7 +123,10 @@ fn tried_submit(alloc: Global, server: Server, i: u8, m: &Submit) -> Result<Trie
     };
     let reply = match server.submit(i, copy) {
         Ok(reply) => reply,
-        Err(ServerError::OutOfTurn { expected, got }) => return Err(Closing::Turn { expected, got }),
+        Err(ServerError::OutOfTurn { expected, got }) => return Err(Closing::Turn {
+            expected,
+            got,
+        }),
         Err(ServerError::OutOfMemory) => return Err(Closing::Memory),
     };
     let Ok(bytes) = encode(alloc, WIRE, n, &Message::Reply(reply)) else {

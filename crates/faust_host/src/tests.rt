@@ -16,6 +16,7 @@ use std::thread::Threads;
 
 /// The streams that carry the HELLO of a client alone.
 const NAMES_1: &[u8] = &[0, 0, 0, 3, 1, 7, 1];
+
 const NAMES_2: &[u8] = &[0, 0, 0, 3, 1, 7, 2];
 
 /// The reply to the first SUBMIT of all, a write, for two clients.
@@ -51,7 +52,15 @@ fn cell_refuses_by_cause<T: Counter>(
         _ => assert!(rt; false),
     }
     let late = cell.handle(1, &submit);
-    assert!(rt; matches!(late, Err(Closing::Turn { expected: 1, got: 1 })));
+    assert!(rt;
+        matches!(
+            late,
+            Err(Closing::Turn {
+                expected: 1,
+                got: 1
+            })
+        )
+    );
     let hello = cell.handle(1, &[1, 7, 1]);
     assert!(rt; matches!(hello, Err(Closing::Malformed)));
 
@@ -145,11 +154,9 @@ struct HeldGate<R> {
 impl<R: Wait + Sync> Gate for HeldGate<R> {
     fn pass(&self, client: u8) {
         if client == 1 {
-            let _open = self.changed.wait_while(
-                &self.rt,
-                self.is_open.lock(&self.rt),
-                |is_open| !*is_open,
-            );
+            let _open = self
+                .changed
+                .wait_while(&self.rt, self.is_open.lock(&self.rt), |is_open| !*is_open);
         } else {
             *self.is_open.lock(&self.rt) = true;
             self.changed.notify_all();
@@ -174,7 +181,10 @@ fn held_reply<T: Service + Send + Sync, R: Threads + Wait + Abort + AllocGlobal 
         || served(rt, &host, gate, second.as_slice()),
     );
     let (first, second) = (first?, second?);
-    assert_eq!(rt; (first.closing, second.closing), (Closing::Ended, Closing::Ended));
+    assert_eq!(rt;
+        (first.closing, second.closing),
+        (Closing::Ended, Closing::Ended)
+    );
     assert_eq!(rt; first.sent + second.sent, 12 + 47);
     let (arrivals, seat) = host.into_parts();
     assert_eq!(rt; arrivals.len(), 2);

@@ -7,8 +7,8 @@ loop-init g c = (
   tt,
   tt,
   answered_none
-    g.T.Service.clients
-    (ends_at
+      g.T.Service.clients
+      (ends_at
       (g.I.FrameIn.left c.args.input.now)
       (g.I.FrameIn.ends c.args.input.now)
       (g.I.FrameIn.faults c.args.input.now)
@@ -20,22 +20,22 @@ loop-preserved g c = (
   tt,
   tt,
   answered_more
-    g.T.Service.clients
-    (ends_at
+      g.T.Service.clients
+      (ends_at
       (g.I.FrameIn.left c.args.input.now)
       (g.I.FrameIn.ends c.args.input.now)
       (g.I.FrameIn.faults c.args.input.now)
       (g.O.FrameOut.faults c.args.output.now))
-    (ends_at
+      (ends_at
       (g.I.FrameIn.left c.loop.input)
       (g.I.FrameIn.ends c.loop.input)
       (g.I.FrameIn.faults c.loop.input)
       (g.O.FrameOut.faults c.loop.output))
-    (ends_at
+      (ends_at
       (g.I.FrameIn.left c.answer_next.new.input)
       (g.I.FrameIn.ends c.answer_next.new.input)
       (g.I.FrameIn.faults c.answer_next.new.input)
       (g.O.FrameOut.faults c.answer_next.new.output))
-    c.loop.invariant.2
-    c.in-Ok.ensures,
+      c.loop.invariant.2
+      c.in-Ok.ensures,
 )
