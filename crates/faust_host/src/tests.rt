@@ -185,7 +185,7 @@ fn held_reply<T: Service + Send + Sync, R: Threads + Wait + Abort + AllocGlobal 
         (first.closing, second.closing),
         (Closing::Ended, Closing::Ended)
     );
-    assert_eq!(rt; first.sent + second.sent, 12 + 47);
+    assert_eq!(rt; first.sent.wrapping_add(second.sent), 12 + 47);
     let (arrivals, seat) = host.into_parts();
     assert_eq!(rt; arrivals.len(), 2);
     root.join(seat);

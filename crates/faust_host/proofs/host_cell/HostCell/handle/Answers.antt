@@ -1,5 +1,3 @@
-use Rattle.std.proofs.Common.{◌∙◌, ap}
-use Rattle.faust_server.specs.Rows.{State, client_count}
 use Rattle.faust_host.proofs.Handling.{cell_after}
 use Rattle.faust_host.proofs.host_cell.HostCell.handle.Goals as goal
 
