@@ -7,4 +7,4 @@ use Rattle.faust_top.proofs.accepting.accept_record.Goals as goal
 pub returns-in-Ok-clause-printable : goal.returns-in-Ok-clause-printable
 returns-in-Ok-clause-printable c =
     subst (λ (taken : Accepted). IsPrintable taken) (sym c.new.ensures.parts)
-    (record_printable c.args.input.now c.in-Ok.run' c.in-Ok.ensures c.new.ensures.is_run)
+    (record_printable c.args.input.now c.in-Ok.run' c.in-Ok.ensures.exact c.new.ensures.is_run)
