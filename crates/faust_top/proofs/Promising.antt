@@ -6,6 +6,7 @@ use Rattle.faust_record.specs.declared.entry.Entry.{Entry}
 use Rattle.faust_runs.proofs.Claims.{run-views}
 use Rattle.faust_held.proofs.Claims.{announced-right}
 use Rattle.faust_claims.proofs.Bringing.{meeting-noticed}
+use Rattle.faust_joined.proofs.Clearing.{none-forged-at-all, without-made}
 use Rattle.faust_joined.proofs.Comparing.{versions-comparable}
 use Rattle.faust_joined.proofs.Linear.{order-linear}
 use Rattle.faust_joined.proofs.Running.{known-front, notice-after}
@@ -15,7 +16,7 @@ use Rattle.faust_top.specs.Answer.{IsOver, IsWithin, Promises}
 use Rattle.faust_top.specs.Commands.{limit_of}
 use Rattle.faust_audit.specs.Departure.{first_departure}
 use Rattle.faust_joined.specs.Promised.{ArePeersMade}
-use Rattle.faust_top.specs.Headline.{AreCutsRight, AreMeetingsNoticed, DoNoticesFollow, IsHeadline, IsHonestlyServed}
+use Rattle.faust_top.specs.Headline.{AreCutsRight, AreMeetingsNoticed, DoNoticesFollow, IsHeadline, IsHonestlyServed, IsPromised}
 use Rattle.faust_top.specs.Output.{AreRuns}
 
 -- a run of which nothing is found is clean
@@ -66,10 +67,16 @@ headline run is kept =
       honest = honestly-served run is made;
     }
 
+promises-of : (run : Run) → IsRun run.config run.entries → IsPromised run
+promises-of run is = record {
+  of_clean = λ found. headline run is (is_clean run found);
+  unforged = λ alone none.
+      none-forged-at-all run.config run.entries is (without-made run.config [] run.entries alone) none;
+}
+
 pub promised : (command : Command) (input : List ℕ) → AreRuns command input → Promises command input
 unfolding Promises AreRuns
-promised command input runs = λ taken is found.
-    headline taken.run (runs taken is.accepted_is) (is_clean taken.run found)
+promised command input runs = λ taken is. promises-of taken.run (runs taken is.accepted_is)
 
 -- an input that is too long has no run
 no_both : (limit : Option ℕ) (input : List ℕ) → IsOver limit input → IsWithin limit input → ⊥
@@ -78,5 +85,5 @@ no_both (Some most) input over within = omega (arith, over, within)
 
 pub promised_too_long : (command : Command) (input : List ℕ) → IsOver (limit_of command) input → Promises command input
 unfolding Promises
-promised_too_long command input over = λ taken is found.
+promised_too_long command input over = λ taken is.
     absurd (no_both (limit_of command) input over is.not_too_long)

@@ -7,12 +7,12 @@ use Rattle.faust_io.specs.Faults.{CountsFault}
 use Rattle.faust_io.specs.Writing.{AppendsPrefix}
 use Rattle.faust_text.specs.Causes.{cause_text}
 use Rattle.faust_script.specs.Parsing.{Refusal}
-use Rattle.faust_premises.specs.Premises.{Verdict, clean, forged, collision, premises_of}
+use Rattle.faust_premises.specs.Premises.{Verdict, clean, forged, collision}
 use Rattle.faust_top.specs.declared.accepting.Accepted.{Accepted}
 use Rattle.faust_top.specs.declared.words.Command.{Command}
 use Rattle.faust_top.specs.Accepting.{accepted}
 use Rattle.faust_top.specs.Commands.{IsForm, IsNoForm, IsReader, limit_of}
-use Rattle.faust_top.specs.Headline.{IsHeadline}
+use Rattle.faust_top.specs.Headline.{IsPromised}
 use Rattle.faust_top.specs.Texts.{usage_text, collision_text, forged_text, refusal_text, text_of, too_long_text, verdict_for}
 
 -- An input is over its limit, or within it.
@@ -64,9 +64,9 @@ pub record Ends : Type 0 where
   pub writes_failed_before : ℕ
   pub writes_failed_after : ℕ
 
--- What is promised of the run of an input, where that is clean.
+-- What is promised of the run of an input.
 unfoldable pub Promises : Command → List ℕ → Type 0
-Promises command input = (taken : Accepted) → IsAccepted command input taken → premises_of taken.run ≡ clean → IsHeadline taken.run
+Promises command input = (taken : Accepted) → IsAccepted command input taken → IsPromised taken.run
 
 -- The input of a command: the bytes of the source, where it tells them, and some bytes where it doesn't. A command that
 -- has no limit reads nothing.
@@ -92,7 +92,7 @@ pub record IsUsageDue (words : List (List ℕ)) (ends : Ends) (text : List ℕ) 
   pub text_is : text ≡ usage_text
   pub source_kept : ends.left_after ≡ ends.left_before
 
--- The text of the input of the command is due. What is promised of its run, where that is clean, holds.
+-- The text of the input of the command is due. What is promised of its run holds.
 pub record IsTextDue (words : List (List ℕ)) (ends : Ends) (status : Status) (text : List ℕ) : Type 0 where
   pub command : Command
   pub form : IsForm words command

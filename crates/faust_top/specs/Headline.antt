@@ -8,12 +8,13 @@ use Rattle.faust_record.specs.Runs.{Run}
 use Rattle.faust_record.specs.declared.entry.Entry.{Entry}
 use Rattle.faust_runs.specs.ForkViews.{view_of}
 use Rattle.faust_runs.specs.Histories.{history_read}
+use Rattle.faust_premises.specs.Premises.{clean, first_forged, premises_of}
 use Rattle.faust_held.specs.Cuts.{Announces}
 use Rattle.faust_held.specs.Held.{GivesNotice}
 use Rattle.faust_audit.specs.Departure.{first_departure}
 use Rattle.faust_audit.specs.Findings.{order_of}
 use Rattle.faust_audit.specs.Meetings.{MeetIncomparable}
-use Rattle.faust_joined.specs.Promised.{AreVersionsComparable, AreWellGiven, IsLinearizableBy}
+use Rattle.faust_joined.specs.Promised.{AreVersionsComparable, AreWellGiven, AreWithoutPeers, IsLinearizableBy}
 
 -- Every cut that a client announces is right for the clients that it covers, judged by the history and the views of the
 -- whole run.
@@ -48,3 +49,9 @@ pub record IsHeadline (run : Run) : Type 0 where
   pub notices : DoNoticesFollow run
   pub meetings : AreMeetingsNoticed run
   pub honest : first_departure run.config run.entries ≡ None → IsHonestlyServed run
+
+-- What is promised of every run: the headline, where it is clean; and that no tag is forged in it, where no reply departed
+-- and nothing came to a client from another client.
+pub record IsPromised (run : Run) : Type 0 where
+  pub of_clean : premises_of run ≡ clean → IsHeadline run
+  pub unforged : AreWithoutPeers run.entries → first_departure run.config run.entries ≡ None → first_forged run.config run.entries ≡ None
