@@ -13,7 +13,8 @@ use Rattle.faust_top.specs.Accepting.{accepted}
 use Rattle.faust_top.specs.Answer.{Ends, IsAnswer, IsCutOff, IsDue, IsInput, IsOutOfMemory, IsOver, IsRead, IsReadFault, IsTextDue, IsTextFor, IsWhole, IsWithin, WritesNothing}
 use Rattle.faust_top.specs.Commands.{IsForm, IsNoForm, limit_of}
 use Rattle.faust_top.specs.Output.{AreRuns, EndsWriting, IsDueOfReader, ReadsInput, output_of_accepted}
-use Rattle.faust_top.specs.Texts.{too_long_text, usage_text}
+use Rattle.faust_verdict.specs.Texts.{usage_text}
+use Rattle.faust_top.specs.Texts.{too_long_text}
 use Rattle.faust_top.proofs.OutputLaws.{input_has}
 use Rattle.faust_top.proofs.Promising.{promised, promised_too_long}
 

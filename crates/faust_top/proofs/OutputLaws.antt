@@ -9,10 +9,11 @@ use Rattle.faust_top.specs.declared.accepting.Accepted.{Accepted}
 use Rattle.faust_top.specs.declared.output.Output.{Output}
 use Rattle.faust_top.specs.declared.words.Command.{Command}
 use Rattle.faust_top.specs.Accepting.{accepted}
-use Rattle.faust_top.specs.Answer.{IsAccepted, IsOver, IsPremiseText, IsRefusedWith, IsTextFor, IsWithin}
+use Rattle.faust_top.specs.Answer.{IsAccepted, IsOver, IsRefusedWith, IsTextFor, IsWithin}
 use Rattle.faust_top.specs.Commands.{IsReader, limit_of}
 use Rattle.faust_top.specs.Output.{IsDueOfReader, is_over, output_of, output_of_accepted, output_of_judged, too_long_output}
-use Rattle.faust_top.specs.Texts.{collision_text, forged_text, verdict_for}
+use Rattle.faust_verdict.specs.Texts.{IsPremiseText, collision_text, forged_text}
+use Rattle.faust_top.specs.Texts.{verdict_for}
 
 -- An output is the text of an input, at its status.
 abbrev pub Has : Command → List ℕ → Output → Type 0

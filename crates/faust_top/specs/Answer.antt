@@ -7,13 +7,14 @@ use Rattle.faust_io.specs.Faults.{CountsFault}
 use Rattle.faust_io.specs.Writing.{AppendsPrefix}
 use Rattle.faust_text.specs.Causes.{cause_text}
 use Rattle.faust_script.specs.Parsing.{Refusal}
-use Rattle.faust_premises.specs.Premises.{Verdict, clean, forged, collision}
+use Rattle.faust_premises.specs.Premises.{clean}
+use Rattle.faust_verdict.specs.Headline.{IsPromised}
+use Rattle.faust_verdict.specs.Texts.{IsPremiseText, usage_text}
 use Rattle.faust_top.specs.declared.accepting.Accepted.{Accepted}
 use Rattle.faust_top.specs.declared.words.Command.{Command}
 use Rattle.faust_top.specs.Accepting.{accepted}
 use Rattle.faust_top.specs.Commands.{IsForm, IsNoForm, IsReader, limit_of}
-use Rattle.faust_top.specs.Headline.{IsPromised}
-use Rattle.faust_top.specs.Texts.{usage_text, collision_text, forged_text, refusal_text, text_of, too_long_text, verdict_for}
+use Rattle.faust_top.specs.Texts.{refusal_text, text_of, too_long_text, verdict_for}
 
 -- An input is over its limit, or within it.
 abbrev pub IsOver : Option ℕ → List ℕ → Type 0
@@ -33,12 +34,6 @@ abbrev pub IsRefusedWith : Command → List ℕ → List ℕ → Type 0
 IsRefusedWith command input text = (IsOver (limit_of command) input × (text ≡ too_long_text))
     ⊎ ((refusal : Refusal) × IsReader command × IsWithin (limit_of command) input × (accepted command input ≡ Err refusal)
     × (text ≡ refusal_text refusal.line (cause_text refusal.cause)))
-
--- Why a run isn't clean, in words.
-abbrev pub IsPremiseText : Verdict → List ℕ → Type 0
-IsPremiseText clean text = ⊥
-IsPremiseText (forged entry body) text = text ≡ forged_text entry body
-IsPremiseText (collision first second) text = text ≡ collision_text first second
 
 -- Which text an input has at a status: what the command tells of its run, where that is clean; or the line that is
 -- refused; or why its run isn't clean. Each input of a command that reads has one text, at one status.

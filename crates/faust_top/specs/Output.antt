@@ -21,7 +21,8 @@ use Rattle.faust_top.specs.declared.output.Output.{Output}
 use Rattle.faust_top.specs.declared.words.Command.{Command}
 use Rattle.faust_top.specs.Accepting.{accepted}
 use Rattle.faust_top.specs.Commands.{IsReader, limit_of}
-use Rattle.faust_top.specs.Texts.{collision_text, forged_text, refusal_text, text_of, too_long_text, verdict_for}
+use Rattle.faust_verdict.specs.Texts.{collision_text, forged_text}
+use Rattle.faust_top.specs.Texts.{refusal_text, text_of, too_long_text, verdict_for}
 
 -- The output of an input.
 abbrev pub output_of_refusal : Refusal → Output

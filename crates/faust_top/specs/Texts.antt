@@ -1,23 +1,16 @@
 -- The texts that `run` writes. Every promise on what it writes rests on these.
 use Rattle.std.specs.Prelude.{ℕ, List, ◌++◌, codes}
 use Rattle.std.specs.Fmt.{decimal}
-use Rattle.hex.specs.Hex.{encode_lower}
 use Rattle.faust_record.specs.Runs.{Run}
-use Rattle.faust_record.specs.declared.findings.Findings.{Findings}
 use Rattle.faust_premises.specs.Premises.{Verdict, clean, premises_of}
-use Rattle.faust_views.specs.Forks.{views_of}
-use Rattle.faust_audit.specs.Findings.{findings_of}
 use Rattle.faust_report.specs.Json.{json_text}
 use Rattle.faust_report.specs.Summary.{summary_text}
 use Rattle.faust_report.specs.Text.{report_text}
 use Rattle.faust_store.specs.Texts.{record_text}
+use Rattle.faust_verdict.specs.Texts.{found_of}
 use Rattle.faust_top.specs.declared.accepting.Accepted.{Accepted}
 use Rattle.faust_top.specs.declared.words.Command.{Command}
 use Rattle.faust_top.specs.declared.words.Command.TheVariants as commands
-
--- What is found of a run, with the views of its clients.
-abbrev pub found_of : Run → Findings
-found_of run = findings_of run (views_of run)
 
 -- What a command tells of the run that it accepted.
 abbrev pub text_of : Command → Accepted → List ℕ
@@ -37,21 +30,9 @@ verdict_for commands.Json run = premises_of run
 verdict_for commands.Migrate run = clean
 verdict_for (commands.Sample seed clients ops) run = premises_of run
 
--- Where the words are no form of the program.
-abbrev pub usage_text : List ℕ
-usage_text = codes "usage: faust script | record | audit | json | migrate | sample SEED CLIENTS OPS\n"
-
 -- Where a line is refused. Line 0 stands for the whole input, which is too long.
 abbrev pub refusal_text : ℕ → List ℕ → List ℕ
 refusal_text line cause = codes "refused: line " ++ (decimal line ++ (codes ": " ++ (cause ++ codes "\n")))
 
 abbrev pub too_long_text : List ℕ
 too_long_text = codes "refused: line 0: input\n"
-
--- Where a run isn't clean: the entry that showed a forged tag, and the body that it is over; or two inputs that have
--- one digest.
-abbrev pub forged_text : ℕ → List ℕ → List ℕ
-forged_text entry body = codes "forged: entry " ++ (decimal entry ++ (codes " body " ++ (encode_lower body ++ codes "\n")))
-
-abbrev pub collision_text : List ℕ → List ℕ → List ℕ
-collision_text first second = codes "collision: " ++ (encode_lower first ++ (codes " " ++ (encode_lower second ++ codes "\n")))

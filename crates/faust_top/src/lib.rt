@@ -4,7 +4,7 @@
 //
 // `specs/Answer.antt` comes first: what each status promises. `specs/Commands.antt` has the words and what each command
 // reads, `specs/Accepting.antt` the run that a command speaks of, `specs/Texts.antt` what is told of it and the lines that
-// stand in place of that, and `specs/Headline.antt` what is promised of each clean run. `specs/Forms.antt` and
+// stand in place of that, and `Headline` of faust_verdict what is promised of each run. `specs/Forms.antt` and
 // `specs/Output.antt` say the same of words and inputs as functions, and help the proofs.
 //
 // What a script is, how it is played, how a record reads, when a run is clean and what a report says are the business of

@@ -1,21 +1,21 @@
 // What an input is answered with: what the command tells of its run, or the line that stands in place of it.
-ghost use Rattle.std.specs.Prelude.{◌≡◌, ◌≤◌, IfOk, length};
+ghost use Rattle.std.specs.Prelude.{◌≡◌, IfOk};
 ghost use Rattle.faust_top.specs.Accepting.{accepted};
 ghost use Rattle.faust_top.specs.Commands.{IsInRange};
 ghost use Rattle.faust_top.specs.Output.{AreRuns, IsDueOfReader, IsPrintable, output_of_accepted, output_of_judged, output_of_refusal};
-ghost use Rattle.faust_top.specs.Texts.{found_of, text_of, verdict_for};
+ghost use Rattle.faust_top.specs.Texts.{text_of, verdict_for};
 ghost use Rattle.faust_audit.specs.Audited.{verdict_in};
 
 use crate::accepting::{AcceptError, Accepted, accept};
-use crate::lines::{collision_line, forged_line, refusal_line};
+use crate::lines::refusal_line;
 use crate::words::Command;
-use faust_audit::{Premises, findings, premises};
-use faust_record::{Findings, RunRecord};
+use faust_audit::{Premises, premises};
+use faust_record::RunRecord;
 use faust_report::{json, summary, text};
 use faust_store::print_record;
 use faust_text::Cause;
 use faust_types::{Bytes, OutOfMemory, Status};
-use faust_views::views;
+use faust_verdict::{collision_line, forged_line, found};
 use std::alloc::Global;
 
 /// A text, and the status that it is written at.
@@ -90,12 +90,4 @@ fn told(alloc: Global, command: Command, taken: &Accepted) -> Result<Bytes, OutO
         Command::Migrate => print_record(alloc, &taken.run, 2),
         Command::Sample { seed, .. } => summary(alloc, &found(alloc, &taken.run)?, seed),
     }
-}
-
-fn found(alloc: Global, run: &RunRecord) -> Result<Findings, OutOfMemory>
-    requires { length run.now.entries ≤ 20000 }
-    ensures { IfOk result (λ found. found ≡ found_of run.now) }
-{
-    let views = views(alloc, run)?;
-    findings(alloc, run, views)
 }

@@ -38,7 +38,7 @@ const SUMMARY: &str =
     "sample seed 1 clients 2\nentries 16\noperations 1 completed 1\ndeparture none\nfailures 0\ncuts whole 2 of 2\nend\n";
 
 const USAGE: &str =
-    "usage: faust script | record | audit | json | migrate | sample SEED CLIENTS OPS\n";
+    "usage: faust script | record | audit | json | migrate | sample SEED CLIENTS OPS | live CLIENTS OPS KEY short | live CLIENTS OPS KEY full\n";
 
 /// A script of a head and lines behind it.
 fn script(alloc: Global, head: &str, lines: &str) -> Result<Bytes, OutOfMemory> {

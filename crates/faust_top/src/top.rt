@@ -7,10 +7,8 @@ use crate::output::answer;
 use crate::words::Command;
 use faust_io::{ReadError, Sink, Source, read_whole, write_whole};
 use faust_types::{Bytes, OutOfMemory, Status};
+use faust_verdict::usage_line;
 use std::alloc::Global;
-
-const USAGE: &[u8] =
-    b"usage: faust script | record | audit | json | migrate | sample SEED CLIENTS OPS\n";
 
 const TOO_LONG: &[u8] = b"refused: line 0: input\n";
 
@@ -35,7 +33,7 @@ pub fn run<S: Source, K: Sink>(
     }) result }
 {
     let Some(command) = Command::of(words) else {
-        return written(sink, USAGE, Status::Usage);
+        return written(sink, usage_line(), Status::Usage);
     };
     let input = match read_input(alloc, source, command) {
         Ok(input) => input,

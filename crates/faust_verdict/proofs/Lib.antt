@@ -1,0 +1,2 @@
+-- The headline, part by part.
+pub mod Promising
