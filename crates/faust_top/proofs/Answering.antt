@@ -12,7 +12,7 @@ use Rattle.faust_top.specs.declared.words.Command.{Command}
 use Rattle.faust_top.specs.Accepting.{accepted}
 use Rattle.faust_top.specs.Answer.{Ends, IsAnswer, IsCutOff, IsDue, IsInput, IsOutOfMemory, IsOver, IsRead, IsReadFault, IsTextDue, IsTextFor, IsWhole, IsWithin, WritesNothing}
 use Rattle.faust_top.specs.Commands.{IsForm, IsNoForm, limit_of}
-use Rattle.faust_top.specs.Output.{AreRuns, EndsWriting, IsDueOfReader, ReadsInput, output_of_accepted}
+use Rattle.faust_top.specs.Output.{AreRuns, EndsWriting, ReadsInput, output_of_accepted}
 use Rattle.faust_verdict.specs.Texts.{usage_text}
 use Rattle.faust_top.specs.Texts.{too_long_text}
 use Rattle.faust_top.proofs.OutputLaws.{input_has}
@@ -95,14 +95,14 @@ text_due words ends command input OutOfMemory text is due = absurd is
 text_due words ends command input Premise text is due = due
 
 pub text_answered : (words : List (List ℕ)) (ends : Ends) (command : Command) (input : List ℕ) (output : Output) (result : Status)
-    → IsForm words command → IsReadAs ends command input → AreRuns command input → IsDueOfReader command (accepted command input)
+    → IsForm words command → IsReadAs ends command input → AreRuns command input
     → output ≡ output_of_accepted command (accepted command input) → IsWritten ends output.status output.text result
     → IsAnswer words ends result
-text_answered words ends command input output result form read runs reader is written =
+text_answered words ends command input output result form read runs is written =
     let limit = limit_of command in
     let within = read_within limit ends.left_before ends.left_after ends.reads_failed_before ends.reads_failed_after input read in
     let has : IsTextFor command input output.status output.text =
-    subst (λ (o : Output). IsTextFor command input o.status o.text) (sym is) (input_has command input reader within) in
+    subst (λ (o : Output). IsTextFor command input o.status o.text) (sym is) (input_has command input form.in_range within) in
     answered words ends output.status output.text result
     (text_due words ends command input output.status output.text has (record {
       command = command;

@@ -3,17 +3,44 @@ use Rattle.std.proofs.Common.{◌≡◌, ℕ, true, false, List, length, Option,
 use Rattle.std.proofs.lemmas.Bool.{cases_lt, cond-false, cond-true, le-ltb, lt-ltb}
 use Rattle.faust_types.specs.declared.status.Status.{Status}
 use Rattle.faust_types.specs.declared.status.Status.TheVariants.{Done, Usage, Refused, ReadFault, WriteFault, OutOfMemory, Premise}
+use Rattle.faust_record.specs.Runs.{Run}
+use Rattle.faust_script.specs.Generated.{IsSampleSize, generated}
 use Rattle.faust_script.specs.Parsing.{Refusal}
+use Rattle.faust_sampled.proofs.Playing.{plays-through}
 use Rattle.faust_premises.specs.Premises.{Verdict, clean, forged, collision}
 use Rattle.faust_top.specs.declared.accepting.Accepted.{Accepted}
 use Rattle.faust_top.specs.declared.output.Output.{Output}
 use Rattle.faust_top.specs.declared.words.Command.{Command}
-use Rattle.faust_top.specs.Accepting.{accepted}
+use Rattle.faust_top.specs.declared.words.Command.TheVariants as commands
+use Rattle.faust_top.specs.Accepting.{accepted, accepted_run, script_played}
 use Rattle.faust_top.specs.Answer.{IsAccepted, IsOver, IsRefusedWith, IsTextFor, IsWithin}
-use Rattle.faust_top.specs.Commands.{IsReader, limit_of}
-use Rattle.faust_top.specs.Output.{IsDueOfReader, is_over, output_of, output_of_accepted, output_of_judged, too_long_output}
+use Rattle.faust_top.specs.Commands.{IsInRange, IsReader, limit_of}
+use Rattle.faust_top.specs.Output.{is_over, output_of, output_of_accepted, output_of_judged, too_long_output}
 use Rattle.faust_verdict.specs.Texts.{IsPremiseText, collision_text, forged_text}
 use Rattle.faust_top.specs.Texts.{verdict_for}
+
+-- A refusal comes of a command that reads: a script that is generated can be played.
+abbrev IsDueOfReader : Command → Result Accepted Refusal → Type 0
+IsDueOfReader command (Ok taken) = Unit {0}
+IsDueOfReader command (Err refusal) = IsReader command
+
+read_due : (command : Command) (result : Result Accepted Refusal) → IsReader command → IsDueOfReader command result
+read_due command (Ok taken) reader = tt
+read_due command (Err refusal) reader = reader
+
+generated_due : (seed clients ops : ℕ) → IsSampleSize clients ops
+    → IsDueOfReader (commands.Sample seed clients ops) (script_played (generated seed clients ops))
+generated_due seed clients ops size =
+    subst (λ (result : Result Run Refusal). IsDueOfReader (commands.Sample seed clients ops)
+    (accepted_run (generated seed clients ops).format result)) (sym (plays-through seed clients ops size).1) tt
+
+due_of : (command : Command) (input : List ℕ) → IsInRange command → IsDueOfReader command (accepted command input)
+due_of commands.Script input range = read_due commands.Script (accepted commands.Script input) refl
+due_of commands.Record input range = read_due commands.Record (accepted commands.Record input) refl
+due_of commands.Audit input range = read_due commands.Audit (accepted commands.Audit input) refl
+due_of commands.Json input range = read_due commands.Json (accepted commands.Json input) refl
+due_of commands.Migrate input range = read_due commands.Migrate (accepted commands.Migrate input) refl
+due_of (commands.Sample seed clients ops) input range = generated_due seed clients ops range.size
 
 -- An output is the text of an input, at its status.
 abbrev pub Has : Command → List ℕ → Output → Type 0
@@ -33,9 +60,9 @@ accepted_has command input (Ok taken) reader few is =
     judged_has command input taken (verdict_for command taken.run) (record { not_too_long = few; accepted_is = is }) refl
 accepted_has command input (Err refusal) reader few is = inr (refusal, reader, few, is, refl)
 
-pub input_has : (command : Command) (input : List ℕ) → IsDueOfReader command (accepted command input) → IsWithin (limit_of command) input
+pub input_has : (command : Command) (input : List ℕ) → IsInRange command → IsWithin (limit_of command) input
     → Has command input (output_of_accepted command (accepted command input))
-input_has command input reader few = accepted_has command input (accepted command input) reader few refl
+input_has command input range few = accepted_has command input (accepted command input) (due_of command input range) few refl
 
 -- An input is over its limit, or within it.
 over_or_within : (limit : Option ℕ) (input : List ℕ) → (IsOver limit input × (is_over limit input ≡ true)) ⊎ (IsWithin limit input × (is_over limit input ≡ false))
@@ -54,7 +81,7 @@ within_is : (limit : Option ℕ) (input : List ℕ) → IsWithin limit input →
 within_is None input within = refl
 within_is (Some most) input within = le-ltb _ _ within
 
--- Every input of a command that reads has an output.
+-- Every input has an output.
 long : (command : Command) (input : List ℕ) → is_over (limit_of command) input ≡ true → output_of command input ≡ too_long_output
 long command input over = cond-true (is_over (limit_of command) input) too_long_output (output_of_accepted command (accepted command input)) over
 
@@ -62,15 +89,11 @@ short : (command : Command) (input : List ℕ) → is_over (limit_of command) in
     → output_of command input ≡ output_of_accepted command (accepted command input)
 short command input within = cond-false (is_over (limit_of command) input) too_long_output (output_of_accepted command (accepted command input)) within
 
-due_of_reader : (command : Command) (result : Result Accepted Refusal) → IsReader command → IsDueOfReader command result
-due_of_reader command (Ok taken) reader = tt
-due_of_reader command (Err refusal) reader = reader
-
-pub has_output : (command : Command) (input : List ℕ) → IsReader command → Has command input (output_of command input)
-has_output command input reader =
+pub has_output : (command : Command) (input : List ℕ) → IsInRange command → Has command input (output_of command input)
+has_output command input range =
     elim (over_or_within (limit_of command) input) [
       | inl over ↦ subst (λ (o : Output). Has command input o) (sym (long command input over.1)) (inl (over.0, refl))
-      | inr within ↦ subst (λ (o : Output). Has command input o) (sym (short command input within.1)) (input_has command input (due_of_reader command (accepted command input) reader) within.0)
+      | inr within ↦ subst (λ (o : Output). Has command input o) (sym (short command input within.1)) (input_has command input range within.0)
     ]
 
 -- It has no other.

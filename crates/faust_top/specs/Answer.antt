@@ -36,7 +36,7 @@ IsRefusedWith command input text = (IsOver (limit_of command) input × (text ≡
     × (text ≡ refusal_text refusal.line (cause_text refusal.cause)))
 
 -- Which text an input has at a status: what the command tells of its run, where that is clean; or the line that is
--- refused; or why its run isn't clean. Each input of a command that reads has one text, at one status.
+-- refused; or why its run isn't clean. Each input has one text, at one status.
 abbrev pub IsTextFor : Command → List ℕ → Status → List ℕ → Type 0
 IsTextFor command input Done text = (taken : Accepted) × IsAccepted command input taken × (verdict_for command taken.run ≡ clean)
     × (text ≡ text_of command taken)

@@ -20,7 +20,7 @@ use Rattle.faust_top.specs.declared.accepting.Accepted.{Accepted}
 use Rattle.faust_top.specs.declared.output.Output.{Output}
 use Rattle.faust_top.specs.declared.words.Command.{Command}
 use Rattle.faust_top.specs.Accepting.{accepted}
-use Rattle.faust_top.specs.Commands.{IsReader, limit_of}
+use Rattle.faust_top.specs.Commands.{limit_of}
 use Rattle.faust_verdict.specs.Texts.{collision_text, forged_text}
 use Rattle.faust_top.specs.Texts.{refusal_text, text_of, too_long_text, verdict_for}
 
@@ -52,21 +52,6 @@ abbrev pub Accepts : Result Accepted AcceptError → Result Accepted Refusal →
 Accepts (Ok taken) due = due ≡ Ok taken
 Accepts (Err (errors.Refused line cause)) due = due ≡ Err (record { line = line; cause = cause })
 Accepts (Err errors.OutOfMemory) due = Unit {0}
-
--- A refusal comes of a command that reads.
-abbrev pub IsOfReader : Command → Result Accepted AcceptError → Type 0
-IsOfReader command (Ok taken) = Unit {0}
-IsOfReader command (Err (errors.Refused line cause)) = IsReader command
-IsOfReader command (Err errors.OutOfMemory) = Unit {0}
-
-abbrev pub IsDueOfReader : Command → Result Accepted Refusal → Type 0
-IsDueOfReader command (Ok taken) = Unit {0}
-IsDueOfReader command (Err refusal) = IsReader command
-
-abbrev pub IsNoRefusal : Result Accepted AcceptError → Type 0
-IsNoRefusal (Ok taken) = Unit {0}
-IsNoRefusal (Err (errors.Refused line cause)) = ⊥
-IsNoRefusal (Err errors.OutOfMemory) = Unit {0}
 
 -- What was accepted is a run, and its record can be printed in the format.
 pub record IsPrintable (taken : Accepted) : Type 0 where

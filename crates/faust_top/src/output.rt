@@ -2,7 +2,7 @@
 ghost use Rattle.std.specs.Prelude.{◌≡◌, IfOk};
 ghost use Rattle.faust_top.specs.Accepting.{accepted};
 ghost use Rattle.faust_top.specs.Commands.{IsInRange};
-ghost use Rattle.faust_top.specs.Output.{AreRuns, IsDueOfReader, IsPrintable, output_of_accepted, output_of_judged, output_of_refusal};
+ghost use Rattle.faust_top.specs.Output.{AreRuns, IsPrintable, output_of_accepted, output_of_judged, output_of_refusal};
 ghost use Rattle.faust_top.specs.Texts.{text_of, verdict_for};
 ghost use Rattle.faust_audit.specs.Audited.{verdict_in};
 
@@ -30,7 +30,6 @@ pub fn answer(alloc: Global, command: Command, input: &[u8]) -> Result<Output, O
     requires { IsInRange command }
     ensures output { IfOk result (λ output. output ≡ output_of_accepted command (accepted command input.now)) }
     ensures are_runs { IfOk result (λ _. AreRuns command input.now) }
-    ensures of_reader { IfOk result (λ _. IsDueOfReader command (accepted command input.now)) }
 {
     match accept(alloc, command, input) {
         Ok(taken) => accepted_output(alloc, command, &taken),

@@ -3,7 +3,7 @@ use Rattle.std.specs.Prelude.{string_bytes}
 use Rattle.faust_io.specs.declared.failed.ReadError.{ReadError}
 use Rattle.faust_top.specs.Accepting.{accepted}
 use Rattle.faust_top.specs.Commands.{limit_of}
-use Rattle.faust_top.specs.Output.{AreRuns, EndsWriting, IsDueOfReader, ReadsInput, output_of_accepted}
+use Rattle.faust_top.specs.Output.{AreRuns, EndsWriting, ReadsInput, output_of_accepted}
 use Rattle.faust_top.proofs.Answering.{fault_answered, no_memory_answered, no_memory_for_text, text_answered, too_long_answered, usage_answered}
 use Rattle.faust_top.proofs.CommandLaws.{command_form, no_form}
 use Rattle.faust_top.proofs.top.run.Goals as goal
@@ -48,13 +48,11 @@ returns-in-Ok-answer g c =
     let is : output ≡ output_of_accepted command (accepted command input) =
     c.in-Ok-answer.ensures.output ∙ ap (λ (bytes : List ℕ). output_of_accepted command (accepted command bytes)) c.as_slice.ensures in
     let runs : AreRuns command input = subst (λ (bytes : List ℕ). AreRuns command bytes) c.as_slice.ensures c.in-Ok-answer.ensures.are_runs in
-    let reader : IsDueOfReader command (accepted command input) =
-    subst (λ (bytes : List ℕ). IsDueOfReader command (accepted command bytes)) c.as_slice.ensures c.in-Ok-answer.ensures.of_reader in
     let result = c.written-in-Ok-answer.result in
     let written = subst (λ (text : List ℕ). EndsWriting output.status text (g.K.Sink.held c.args.sink.now) (g.K.Sink.held c.written-in-Ok-answer.new.sink)
     (g.K.Sink.faults c.args.sink.now) (g.K.Sink.faults c.written-in-Ok-answer.new.sink) result)
     c.as_slice-in-Ok-answer.ensures c.written-in-Ok-answer.ensures in
-    text_answered _ _ command input output result (command_form _ command (sym c.in-Some.ensures)) c.in-Ok.ensures runs reader is written
+    text_answered _ _ command input output result (command_form _ command (sym c.in-Some.ensures)) c.in-Ok.ensures runs is written
 
 pub returns : goal.returns
 returns g c =
