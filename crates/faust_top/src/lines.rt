@@ -2,7 +2,7 @@
 ghost use Rattle.std.specs.Prelude.{◌≡◌, IfOk};
 ghost use Rattle.faust_top.specs.Texts.{refusal_text};
 
-use faust_text::{put_number};
+use faust_text::put_number;
 use faust_types::{Bytes, OutOfMemory, Sequence};
 use std::alloc::Global;
 

@@ -1,5 +1,6 @@
 use Rattle.std.proofs.Common.{◌≡◌, ℕ, List, map, Err, refl, sym, ap, subst, ◌∙◌}
 use Rattle.std.specs.Prelude.{string_bytes}
+use Rattle.faust_types.specs.declared.status.Status.TheVariants.{Usage}
 use Rattle.faust_io.specs.declared.failed.ReadError.{ReadError}
 use Rattle.faust_top.specs.Accepting.{accepted}
 use Rattle.faust_top.specs.Commands.{limit_of}
@@ -10,7 +11,9 @@ use Rattle.faust_top.proofs.top.run.Goals as goal
 
 pub returns-in_default : goal.returns-in_default
 returns-in_default g c =
-    usage_answered _ _ c.written.result (no_form _ (sym c.in_default.ensures)) refl refl c.written.ensures
+    usage_answered _ _ c.written.result (no_form _ (sym c.in_default.ensures)) refl refl
+    (subst (λ (text : List ℕ). EndsWriting Usage text (g.K.Sink.held c.args.sink.now) (g.K.Sink.held c.written.new.sink)
+    (g.K.Sink.faults c.args.sink.now) (g.K.Sink.faults c.written.new.sink) c.written.result) c.usage_line.ensures c.written.ensures)
 
 pub returns-in-Err-TooLong : goal.returns-in-Err-TooLong
 returns-in-Err-TooLong g c =
