@@ -6,3 +6,5 @@ complete -c faust -n __fish_use_subcommand -a audit -d 'read a record and print 
 complete -c faust -n __fish_use_subcommand -a json -d 'play a script and print its report as JSON'
 complete -c faust -n __fish_use_subcommand -a migrate -d 'read a record and print it in format 2'
 complete -c faust -n __fish_use_subcommand -a sample -d 'play a script made from a number and print a summary'
+complete -c faust -n __fish_use_subcommand -a live -d 'run clients and a server over sockets and print what came of it'
+complete -c faust -n '__fish_seen_subcommand_from live' -a 'short full'
