@@ -360,7 +360,7 @@ BEGIN {
   count = split("c=CLIENT,v=CLIENT TIME,m=CLIENT,ctag=,add=CLIENT OPERATION CLIENT,drop=COUNT,swap=COUNT,ltag=COUNT,proof=CLIENT," \
     "noproof=CLIENT,jv=CLIENT TIME,jtag=,t=TIME,value=VALUE,dtag=,unread=", forms, ",")
   for (i = 1; i <= count; i++) { split(forms[i], form, "="); edits[form[1]] = form[2] }
-  count = split("0 10 32 34 48 49 50 57 92 97 109 116 128", list, " ")
+  count = split("0 10 32 34 48 97 128", list, " ")
   for (i = 1; i <= count; i++) tried[list[i]] = 1
 }
 
