@@ -5,6 +5,7 @@ ghost use Rattle.faust_types.specs.Ranges.{IsConfig};
 use faust_types::{Bytes, Config, OutOfMemory};
 use std::alloc::Global;
 
+mod faults;
 mod live;
 
 const KEY: [u8; 16] = [0, 1, 2, 3, 4, 5, 6, 7, 8, 9, 10, 11, 12, 13, 14, 15];
