@@ -3,7 +3,7 @@ _faust() {
   if ((COMP_CWORD == 1)); then
     mapfile -t COMPREPLY < <(compgen -W "script record audit json migrate sample live" -- "${COMP_WORDS[1]}")
   elif ((COMP_CWORD == 5)) && [[ ${COMP_WORDS[1]} == live ]]; then
-    mapfile -t COMPREPLY < <(compgen -W "short full" -- "${COMP_WORDS[5]}")
+    mapfile -t COMPREPLY < <(compgen -W 'short full' -- "${COMP_WORDS[5]}")
   else
     COMPREPLY=()
   fi
