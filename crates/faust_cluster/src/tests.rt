@@ -133,17 +133,49 @@ fn what_fails_is_named(rt: HostRuntime) -> Result<(), Fail> {
     Ok(())
 }
 
+/// The status and the text of a run of two clients, in which one bit of this frame of client 1 is changed.
+fn changed<R: Threads + Wait + Sync>(
+    rt: &R,
+    alloc: Global,
+    to_server: bool,
+    frame: usize,
+) -> Result<(LiveStatus, Bytes), OutOfMemory> {
+    let mut net = MemNet::new(rt, alloc, 2, &[], &[])?;
+    net.flip(1, to_server, frame)?;
+    let form = ["live", "2", "1", "00", "full"];
+    came_to(rt, alloc, &mut net, &[], &form)
+}
+
 #[test]
-fn a_changed_message_is_a_frame_that_differs(rt: HostRuntime) -> Result<(), Fail> {
-    let alloc = rt.alloc();
-    let mut net = MemNet::new(&rt, alloc, 2, &[], &[])?;
-    net.flip(1, true, 2)?;
-    let form = ["live", "2", "1", "00", "short"];
-    let (status, text) = came_to(&rt, alloc, &mut net, &[], &form)?;
+fn a_changed_reply_is_a_departure(rt: HostRuntime) -> Result<(), Fail> {
+    let (status, text) = changed(&rt, rt.alloc(), false, 1)?;
+    assert_eq!(rt; status, LiveStatus::Done);
+    let Ok(text) = str::from_utf8(text.as_slice()) else {
+        panic!(rt; "the report is no text");
+    };
+    let (mut failed, mut departed) = (None, None);
+    for line in text.lines() {
+        if let Some(entry) = line.strip_suffix(" fail 1: check 1 place 0") {
+            failed = Some(entry);
+        }
+        if let Some(entry) = line.strip_prefix("departure ") {
+            departed = Some(entry);
+        }
+    }
+    assert!(rt; failed.is_some(), "{text}");
+    assert!(rt; failed == departed, "{text}");
+    Ok(())
+}
+
+#[test]
+fn a_changed_message_differs_or_is_refused(rt: HostRuntime) -> Result<(), Fail> {
+    let (status, text) = changed(&rt, rt.alloc(), true, 2)?;
     assert_eq!(rt; status, LiveStatus::LinkFault);
-    assert!(rt;
-        text.as_slice()
-            .starts_with(b"frame differs: client 1 message 1 sent ")
-    );
+    let line = b"frame differs: client 1 message 1 sent ";
+    assert!(rt; text.as_slice().starts_with(line));
+    let (status, text) = changed(&rt, rt.alloc(), true, 1)?;
+    assert_eq!(rt; status, LiveStatus::Mismatch);
+    let line = b"receipts short: user 1 has 0 of 1\n".as_slice();
+    assert_eq!(rt; text.as_slice(), line);
     Ok(())
 }
