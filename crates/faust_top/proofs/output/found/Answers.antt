@@ -6,6 +6,6 @@ use Rattle.faust_top.proofs.output.found.Goals as goal
 
 pub returns : goal.returns
 returns c =
-    let run = c.args.run.now in
+    let run = c.args.run in
     let seen = views_are run c.in_ok-views.views c.in_ok-views.ensures.each in
     subst (λ (views : List (List OpName)). IfOk c.findings.result (λ found. found ≡ findings_of run views)) seen c.findings.ensures
