@@ -1,16 +1,17 @@
 // What an input is answered with: what the command tells of its run, or the line that stands in place of it.
-ghost use Rattle.std.specs.Prelude.{◌≡◌, IfOk};
+ghost use Rattle.std.specs.Prelude.{◌≡◌, ◌≤◌, IfOk, length};
 ghost use Rattle.faust_top.specs.Accepting.{accepted};
 ghost use Rattle.faust_top.specs.Commands.{IsInRange};
-ghost use Rattle.faust_top.specs.Output.{AreRuns, IsPrintable, output_of_accepted, output_of_judged, output_of_refusal};
+ghost use Rattle.faust_top.specs.Output.{Accepts, AreRuns, IsPrintable, output_of_accepted, output_of_judged, output_of_refusal};
 ghost use Rattle.faust_top.specs.Texts.{text_of, verdict_for};
+ghost use Rattle.faust_verdict.specs.Texts.{found_of};
 ghost use Rattle.faust_audit.specs.Audited.{verdict_in};
 
 use crate::accepting::{AcceptError, Accepted, accept};
 use crate::lines::refusal_line;
 use crate::words::Command;
 use faust_audit::{Premises, premises};
-use faust_record::RunRecord;
+use faust_record::{Findings, RunRecord};
 use faust_report::{json, summary, text};
 use faust_store::print_record;
 use faust_text::Cause;
@@ -25,17 +26,26 @@ pub struct Output {
     pub text: Bytes,
 }
 
-/// What a command answers to an input that isn't too long.
-pub fn answer(alloc: Global, command: Command, input: &[u8]) -> Result<Output, OutOfMemory>
+/// What a command answers to an input that isn't too long. The input is let go once it is accepted, and the run once it is
+/// judged.
+pub fn answer(alloc: Global, command: Command, input: Bytes) -> Result<Output, OutOfMemory>
     requires { IsInRange command }
-    ensures output { IfOk result (λ output. output ≡ output_of_accepted command (accepted command input.now)) }
-    ensures are_runs { IfOk result (λ _. AreRuns command input.now) }
+    ensures output { IfOk result (λ output. output ≡ output_of_accepted command (accepted command input)) }
+    ensures are_runs { IfOk result (λ _. AreRuns command input) }
 {
-    match accept(alloc, command, input) {
-        Ok(taken) => accepted_output(alloc, command, &taken),
+    match accept_whole(alloc, command, input) {
+        Ok(taken) => accepted_output(alloc, command, taken),
         Err(AcceptError::Refused { line, cause }) => refused_output(alloc, line, cause),
         Err(AcceptError::OutOfMemory) => Err(OutOfMemory),
     }
+}
+
+fn accept_whole(alloc: Global, command: Command, input: Bytes) -> Result<Accepted, AcceptError>
+    requires { IsInRange command }
+    ensures accepts { Accepts result (accepted command input) }
+    ensures printable { IfOk result IsPrintable }
+{
+    accept(alloc, command, input.as_slice())
 }
 
 fn refused_output(alloc: Global, line: u64, cause: Cause) -> Result<Output, OutOfMemory>
@@ -48,9 +58,9 @@ fn refused_output(alloc: Global, line: u64, cause: Cause) -> Result<Output, OutO
     })
 }
 
-fn accepted_output(alloc: Global, command: Command, taken: &Accepted) -> Result<Output, OutOfMemory>
-    requires { IsPrintable taken.now }
-    ensures { IfOk result (λ output. output ≡ output_of_judged command taken.now (verdict_for command taken.now.run)) }
+fn accepted_output(alloc: Global, command: Command, taken: Accepted) -> Result<Output, OutOfMemory>
+    requires { IsPrintable taken }
+    ensures { IfOk result (λ output. output ≡ output_of_judged command taken (verdict_for command taken.run)) }
 {
     let (status, text) = match verdict(alloc, command, &taken.run)? {
         Premises::Clean => (Status::Done, told(alloc, command, taken)?),
@@ -78,15 +88,23 @@ fn verdict(alloc: Global, command: Command, run: &RunRecord) -> Result<Premises,
 }
 
 /// What the command tells of the run.
-fn told(alloc: Global, command: Command, taken: &Accepted) -> Result<Bytes, OutOfMemory>
-    requires { IsPrintable taken.now }
-    ensures { IfOk result (λ text. text ≡ text_of command taken.now) }
+fn told(alloc: Global, command: Command, taken: Accepted) -> Result<Bytes, OutOfMemory>
+    requires { IsPrintable taken }
+    ensures { IfOk result (λ text. text ≡ text_of command taken) }
 {
     match command {
-        Command::Script | Command::Audit => text(alloc, &found(alloc, &taken.run)?),
+        Command::Script | Command::Audit => text(alloc, &found_of(alloc, taken.run)?),
         Command::Record => print_record(alloc, &taken.run, taken.format),
-        Command::Json => json(alloc, &found(alloc, &taken.run)?),
+        Command::Json => json(alloc, &found_of(alloc, taken.run)?),
         Command::Migrate => print_record(alloc, &taken.run, 2),
-        Command::Sample { seed, .. } => summary(alloc, &found(alloc, &taken.run)?, seed),
+        Command::Sample { seed, .. } => summary(alloc, &found_of(alloc, taken.run)?, seed),
     }
+}
+
+/// The findings of a run, which is let go.
+fn found_of(alloc: Global, run: RunRecord) -> Result<Findings, OutOfMemory>
+    requires { length run.entries ≤ 20000 }
+    ensures { IfOk result (λ found. found ≡ found_of run) }
+{
+    found(alloc, &run)
 }

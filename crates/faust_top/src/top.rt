@@ -41,7 +41,7 @@ pub fn run<S: Source, K: Sink>(
         Err(ReadError::Failed) => return Status::ReadFault,
         Err(ReadError::OutOfMemory) => return Status::OutOfMemory,
     };
-    match answer(alloc, command, input.as_slice()) {
+    match answer(alloc, command, input) {
         Ok(output) => written(sink, output.text.as_slice(), output.status),
         Err(OutOfMemory) => Status::OutOfMemory,
     }

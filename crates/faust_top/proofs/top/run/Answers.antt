@@ -1,10 +1,9 @@
-use Rattle.std.proofs.Common.{◌≡◌, ℕ, List, map, Err, refl, sym, ap, subst, ◌∙◌}
+use Rattle.std.proofs.Common.{ℕ, List, map, Err, refl, sym, subst}
 use Rattle.std.specs.Prelude.{string_bytes}
 use Rattle.faust_types.specs.declared.status.Status.TheVariants.{Usage}
 use Rattle.faust_io.specs.declared.failed.ReadError.{ReadError}
-use Rattle.faust_top.specs.Accepting.{accepted}
 use Rattle.faust_top.specs.Commands.{limit_of}
-use Rattle.faust_top.specs.Output.{AreRuns, EndsWriting, ReadsInput, output_of_accepted}
+use Rattle.faust_top.specs.Output.{EndsWriting, ReadsInput}
 use Rattle.faust_top.proofs.Answering.{fault_answered, no_memory_answered, no_memory_for_text, text_answered, too_long_answered, usage_answered}
 use Rattle.faust_top.proofs.CommandLaws.{command_form, no_form}
 use Rattle.faust_top.proofs.top.run.Goals as goal
@@ -46,19 +45,17 @@ answer-requires g c =
 pub returns-in-Ok-answer : goal.returns-in-Ok-answer
 returns-in-Ok-answer g c =
     let command = c.in-Some.command in
-    let input = c.in-Ok.input in
     let output = c.in-Ok-answer.output in
-    let is : output ≡ output_of_accepted command (accepted command input) =
-    c.in-Ok-answer.ensures.output ∙ ap (λ (bytes : List ℕ). output_of_accepted command (accepted command bytes)) c.as_slice.ensures in
-    let runs : AreRuns command input = subst (λ (bytes : List ℕ). AreRuns command bytes) c.as_slice.ensures c.in-Ok-answer.ensures.are_runs in
+    let answered = c.in-Ok-answer.ensures in
     let result = c.written-in-Ok-answer.result in
     let written = subst (λ (text : List ℕ). EndsWriting output.status text (g.K.Sink.held c.args.sink.now) (g.K.Sink.held c.written-in-Ok-answer.new.sink)
     (g.K.Sink.faults c.args.sink.now) (g.K.Sink.faults c.written-in-Ok-answer.new.sink) result)
-    c.as_slice-in-Ok-answer.ensures c.written-in-Ok-answer.ensures in
-    text_answered _ _ command input output result (command_form _ command (sym c.in-Some.ensures)) c.in-Ok.ensures runs is written
+    c.as_slice.ensures c.written-in-Ok-answer.ensures in
+    text_answered _ _ command c.in-Ok.input output result (command_form _ command (sym c.in-Some.ensures)) c.in-Ok.ensures answered.are_runs
+    answered.output written
 
-pub returns : goal.returns
-returns g c =
+pub returns-in-Err : goal.returns-in-Err
+returns-in-Err g c =
     let command = c.in-Some.command in
     no_memory_for_text _ _ command c.in-Ok.input (command_form _ command (sym c.in-Some.ensures)) c.in-Ok.ensures
     (record { held = refl; writes_kept = refl })
