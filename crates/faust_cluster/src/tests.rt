@@ -133,14 +133,15 @@ fn what_fails_is_named(rt: HostRuntime) -> Result<(), Fail> {
     Ok(())
 }
 
-/// The status and the text of a run of two clients, in which one bit of this frame of client 1 is changed.
+/// The status and the text of a run of two clients, in which one bit of this frame of client 1 is changed. The first
+/// datagram is lost, and the second comes twice.
 fn changed<R: Threads + Wait + Sync>(
     rt: &R,
     alloc: Global,
     to_server: bool,
     frame: usize,
 ) -> Result<(LiveStatus, Bytes), OutOfMemory> {
-    let mut net = MemNet::new(rt, alloc, 2, &[], &[])?;
+    let mut net = MemNet::new(rt, alloc, 2, &[], &[1, 2])?;
     net.flip(1, to_server, frame)?;
     let form = ["live", "2", "1", "00", "full"];
     came_to(rt, alloc, &mut net, &[], &form)
@@ -178,4 +179,51 @@ fn a_changed_message_differs_or_is_refused(rt: HostRuntime) -> Result<(), Fail> 
     let line = b"receipts short: user 1 has 0 of 1\n".as_slice();
     assert_eq!(rt; text.as_slice(), line);
     Ok(())
+}
+
+#[test]
+fn no_changed_frame_holds_a_run_up(rt: HostRuntime) -> Result<(), Fail> {
+    for frame in 1..6 {
+        for to_server in [true, false] {
+            let (status, _) = changed(&rt, rt.alloc(), to_server, frame)?;
+            assert!(rt;
+                matches!(
+                    status,
+                    LiveStatus::Done | LiveStatus::LinkFault | LiveStatus::Mismatch
+                )
+            );
+        }
+    }
+    Ok(())
+}
+
+#[test]
+fn each_write_fails_in_its_place(rt: HostRuntime) -> Result<(), Fail> {
+    let alloc = rt.alloc();
+    let words = words(alloc, &["live", "2", "1", "00", "short"])?;
+    for call in 1..100u64 {
+        let mut net = MemNet::new(&rt, alloc, 2, &[], &[])?;
+        let mut spawner = RefusingSpawner::new(alloc, &[])?;
+        let mut sink = MemSink::new(alloc, 1_000, 1, &[call])?;
+        let clocks = clocks(alloc)?;
+        let status = live(
+            &rt,
+            alloc,
+            words.as_slice(),
+            &mut net,
+            &mut spawner,
+            clocks,
+            &mut sink,
+        );
+        let written = sink.bytes();
+        assert!(rt; MEETING.as_bytes().starts_with(written));
+        if status == LiveStatus::Done {
+            assert_eq!(rt; written, MEETING.as_bytes());
+            return Ok(());
+        }
+        assert_eq!(rt; status, LiveStatus::WriteFault);
+        assert_eq!(rt; (written.len() as u64).saturating_add(1), call);
+        assert_eq!(rt; sink.faults(), 1);
+    }
+    panic!(rt; "no run has a status without a fault");
 }

@@ -7,6 +7,7 @@ use std::alloc::Global;
 
 mod faults;
 mod live;
+mod messages;
 
 const KEY: [u8; 16] = [0, 1, 2, 3, 4, 5, 6, 7, 8, 9, 10, 11, 12, 13, 14, 15];
 
