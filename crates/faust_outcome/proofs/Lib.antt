@@ -10,3 +10,5 @@ pub mod OutcomeLaws
 pub mod ToldLaws
 -- the few numbers, piece by piece
 pub mod Pieced
+-- what is gathered of two clients that did nothing
+mod Idle

@@ -17,6 +17,8 @@ pub mod laws;
 mod lines;
 mod numbers;
 mod status;
+#[cfg(test)]
+mod tests;
 mod words;
 
 pub use deciding::{Output, outcome};
