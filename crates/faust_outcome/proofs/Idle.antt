@@ -26,9 +26,10 @@ told-nothing n ops i = record { listed = tt; few = omega arith; printable = tt }
 
 pub both-told : (command : LiveCommand) (first second : List Receipt) → command.clients ≡ 2 → command.ops ≡ 1 → AreTold 2 1 1 first
     → second ≡ [] → AreAllTold command.clients command.ops 1 (first ∷ second ∷ [])
-both-told command first second two one told none =
-    (subst (λ (n : ℕ). AreTold n command.ops 1 first) (sym two) (subst (λ (ops : ℕ). AreTold 2 ops 1 first) (sym one) told),
-    (subst (AreTold command.clients command.ops 2) (sym none) (told-nothing command.clients command.ops 2), tt))
+both-told command first second two one told none = (
+  subst (λ (n : ℕ). AreTold n command.ops 1 first) (sym two) (subst (λ (ops : ℕ). AreTold 2 ops 1 first) (sym one) told),
+  (subst (AreTold command.clients command.ops 2) (sym none) (told-nothing command.clients command.ops 2), tt),
+)
 
 -- Journals without entries, and no arrivals.
 empty-journal : (command : LiveCommand) (me : ℕ) → IsInRange command → command.clients ≡ 2 → IsClient 2 me

@@ -190,7 +190,7 @@ fn other_words_are_no_form(rt: HostRuntime) -> Result<(), Fail> {
     for form in forms {
         let words = words(rt.alloc(), form)?;
         let mut source = MemSource::new(rt.alloc(), input.as_slice(), 100, &[1])?;
-        let mut sink = MemSink::new(rt.alloc(), 100, 100, &[])?;
+        let mut sink = MemSink::new(rt.alloc(), 1_000, 100, &[])?;
         let status = run(rt.alloc(), words.as_slice(), &mut source, &mut sink);
         assert_eq!(rt; status, Status::Usage, "{form:?}");
         assert_eq!(rt; sink.bytes(), USAGE.as_bytes(), "{form:?}");
