@@ -1,5 +1,6 @@
 pub mod Ranges
 pub mod ReadLaws
+pub mod Feeds
 pub mod Spelling
 pub mod Arrivals
 pub mod Taking

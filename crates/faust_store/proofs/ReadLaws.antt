@@ -1,12 +1,13 @@
 -- Reading a record line by line.
-use Rattle.std.proofs.Common.{◌≡◌, ℕ, ◌+◌, List, [], drop, Ok, Err, sym, ap, ◌∙◌}
+use Rattle.std.proofs.Common.{◌≡◌, ℕ, ◌+◌, List, [], drop, Result, Ok, Err, sym, ap, ◌∙◌}
 use Rattle.faust_text.specs.declared.error.LineError.{LineError}
 use Rattle.faust_text.specs.declared.error.LineError.TheVariants as line_errors
 use Rattle.faust_text.specs.declared.line.Line.{Line}
 use Rattle.faust_text.specs.Fields.{Fails}
 use Rattle.faust_text.specs.Lines.{BeginsAt, line_in, lines_of}
+use Rattle.faust_record.specs.Runs.{Run}
 use Rattle.faust_store.specs.declared.stage.Stage.{Stage}
-use Rattle.faust_store.specs.Reading.{Reads, and_then_lines, finished, lines_from, read, refused_at, stage_at}
+use Rattle.faust_store.specs.Reading.{Reads, Refusal, and_then_lines, finished, lines_from, refused_at, stage_at}
 
 -- One line on.
 one_line_on : (input : List ℕ) (from number : ℕ) (line : Line) (stage : Stage) → BeginsAt input from line → lines_from stage number (lines_of (drop from input)) ≡ and_then_lines number (λ next. lines_from next (number + 1) (lines_of (drop (line.span.end + 1) input))) (stage_at stage (line_in input line))
@@ -17,10 +18,12 @@ pub line_taken : (input : List ℕ) (from number : ℕ) (line : Line) (stage nex
 line_taken input from number line stage next begins taken =
     one_line_on input from number line stage begins ∙ ap (and_then_lines number (λ s. lines_from s (number + 1) (lines_of (drop (line.span.end + 1) input)))) taken
 
-pub line_refused : (input : List ℕ) (from number : ℕ) (line : Line) (stage : Stage) (error : LineError) → BeginsAt input from line → Fails error (stage_at stage (line_in input line)) → lines_from stage number (lines_of (drop from input)) ≡ read input → Reads (Err (refused_at number error)) (read input)
-line_refused input from number line stage (line_errors.Refused cause) begins failed so_far =
+pub line_refused : (input : List ℕ) (from number : ℕ) (line : Line) (stage : Stage) (error : LineError) (due : Result Run Refusal)
+    → BeginsAt input from line → Fails error (stage_at stage (line_in input line)) → lines_from stage number (lines_of (drop from input)) ≡ due
+    → Reads (Err (refused_at number error)) due
+line_refused input from number line stage (line_errors.Refused cause) due begins failed so_far =
     sym so_far ∙ (one_line_on input from number line stage begins ∙ ap (and_then_lines number (λ s. lines_from s (number + 1) (lines_of (drop (line.span.end + 1) input)))) failed)
-line_refused input from number line stage line_errors.OutOfMemory begins failed so_far = tt
+line_refused input from number line stage line_errors.OutOfMemory due begins failed so_far = tt
 
 pub lines_ended : (input : List ℕ) (from number : ℕ) (stage : Stage) → lines_of (drop from input) ≡ [] → lines_from stage number (lines_of (drop from input)) ≡ finished stage number
 unfolding lines_from

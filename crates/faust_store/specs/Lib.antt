@@ -6,3 +6,4 @@ pub mod Records
 pub mod Refusals
 pub mod InRange
 pub mod Kept
+pub mod Feeding

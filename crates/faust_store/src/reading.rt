@@ -1,5 +1,7 @@
-ghost use Rattle.std.specs.Prelude.{◌≡◌};
-ghost use Rattle.faust_store.specs.Reading.{Reads, finished, read, refused_at};
+ghost use Rattle.std.specs.Prelude.{◌≡◌, ◌+◌, ◌^◌, ◌<◌, length};
+ghost use Rattle.faust_text.specs.Lines.{lines_of};
+ghost use Rattle.faust_store.specs.InRange.{IsStage};
+ghost use Rattle.faust_store.specs.Reading.{Reads, finished, lines_from, read, refused_at};
 ghost use Rattle.faust_store.specs.Refusals.{IsAnswer};
 
 use crate::error::StoreError;
@@ -20,9 +22,23 @@ pub fn read_record(alloc: Global, input: &[u8]) -> Result<RunRecord, StoreError>
 fn run_of(alloc: Global, input: &[u8]) -> Result<RunRecord, StoreError>
     ensures { Reads result (read input.now) }
 {
-    let mut stage = Stage::start();
+    run_from(alloc, Stage::start(), 1, input)
+}
+
+/// What the lines of the input make, read from a stage on, the first of them with this number.
+pub(crate) fn run_from(
+    alloc: Global,
+    start: Stage,
+    first: u64,
+    input: &[u8],
+) -> Result<RunRecord, StoreError>
+    requires stage { IsStage start }
+    requires counted { first + length input.now < 2 ^ 63 + 2 }
+    ensures { Reads result (lines_from start first (lines_of input.now)) }
+{
+    let mut stage = start;
     let mut from = 0;
-    let mut number: u64 = 1;
+    let mut number = first;
     while let Some(line) = line_at(input, from) {
         stage = match stage.next(alloc, input, line) {
             Ok(stage) => stage,
@@ -46,7 +62,7 @@ fn finish(stage: Stage, next_line: u64) -> Result<RunRecord, StoreError>
     }
 }
 
-fn refused(line: u64, error: LineError) -> StoreError
+pub(crate) fn refused(line: u64, error: LineError) -> StoreError
     ensures { result ≡ refused_at line error }
 {
     match error {

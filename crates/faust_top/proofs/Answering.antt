@@ -184,31 +184,13 @@ fault_answered words ends command form read nothing =
       nothing = nothing;
     }
 
-no_memory_read : (limit : Option ℕ) (before after : Option (List ℕ)) (failed_before failed_after : ℕ)
-    → ReadsInput limit before after failed_before failed_after (Err reads.OutOfMemory)
-    → IsRead limit OutOfMemory before after × (failed_after ≡ failed_before)
-no_memory_read None before after failed_before failed_after h = absurd h
-no_memory_read (Some most) before after failed_before failed_after h = (tt, h)
-
 pub no_memory_answered : (words : List (List ℕ)) (ends : Ends) (command : Command) → IsForm words command
-    → ReadsInput (limit_of command) ends.left_before ends.left_after ends.reads_failed_before ends.reads_failed_after (Err reads.OutOfMemory)
+    → IsRead (limit_of command) OutOfMemory ends.left_before ends.left_after → ends.reads_failed_after ≡ ends.reads_failed_before
     → WritesNothing ends → IsOutOfMemory words ends
-no_memory_answered words ends command form read nothing =
-    let source = no_memory_read (limit_of command) ends.left_before ends.left_after ends.reads_failed_before ends.reads_failed_after read in record {
-      command = command;
-      form = form;
-      source_read = source.0;
-      reads_kept = source.1;
-      nothing = nothing;
-    }
-
-pub no_memory_for_text : (words : List (List ℕ)) (ends : Ends) (command : Command) (input : List ℕ) → IsForm words command
-    → IsReadAs ends command input → WritesNothing ends → IsOutOfMemory words ends
-no_memory_for_text words ends command input form read nothing =
-    let limit = limit_of command in record {
-      command = command;
-      form = form;
-      source_read = read_source limit OutOfMemory ends.left_before ends.left_after ends.reads_failed_before ends.reads_failed_after input read;
-      reads_kept = read_kept limit ends.left_before ends.left_after ends.reads_failed_before ends.reads_failed_after input read;
-      nothing = nothing;
-    }
+no_memory_answered words ends command form read kept nothing = record {
+  command = command;
+  form = form;
+  source_read = read;
+  reads_kept = kept;
+  nothing = nothing;
+}

@@ -3,5 +3,7 @@ mod Configs
 mod Printable
 mod OutputLaws
 mod ReadRuns
+mod RecordPieces
 mod Promising
 mod Answering
+mod InputAnswers

@@ -4,3 +4,4 @@ pub mod Texts
 pub mod Answer
 pub mod Forms
 pub mod Output
+pub mod RecordInput

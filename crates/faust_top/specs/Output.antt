@@ -3,7 +3,7 @@
 use Rattle.std.specs.Prelude.{◌≡◌, ℕ, ◌<◌, ◌≤◌, Bool, false, List, [], length, nat_lt, Option, Some, None, IfSome, Result, Ok, Err, if◌then◌else◌, ◌⊎◌}
 use Rattle.std.specs.Io.KnownBytes.{Appends}
 use Rattle.faust_types.specs.declared.status.Status.{Status}
-use Rattle.faust_types.specs.declared.status.Status.TheVariants.{Done, Refused, Premise, WriteFault}
+use Rattle.faust_types.specs.declared.status.Status.TheVariants.{Done, Refused, Premise, WriteFault, OutOfMemory}
 use Rattle.faust_io.specs.declared.failed.ReadError.{ReadError}
 use Rattle.faust_io.specs.declared.failed.ReadError.TheVariants as reads
 use Rattle.faust_io.specs.Faults.{CountsFault}
@@ -20,6 +20,8 @@ use Rattle.faust_top.specs.declared.accepting.Accepted.{Accepted}
 use Rattle.faust_top.specs.declared.output.Output.{Output}
 use Rattle.faust_top.specs.declared.words.Command.{Command}
 use Rattle.faust_top.specs.Accepting.{accepted}
+use Rattle.faust_top.specs.declared.words.Command.TheVariants as commands
+use Rattle.faust_top.specs.Answer.{IsRead}
 use Rattle.faust_top.specs.Commands.{limit_of}
 use Rattle.faust_verdict.specs.Texts.{collision_text, forged_text}
 use Rattle.faust_top.specs.Texts.{refusal_text, text_of, too_long_text, verdict_for}
@@ -77,6 +79,31 @@ ReadsInput (Some most) before after failed_before failed_after (Err reads.TooLon
     IfSome before (λ content. most < length content) × (failed_after ≡ failed_before)
 ReadsInput (Some most) before after failed_before failed_after (Err reads.Failed) = CountsFault failed_before failed_after
 ReadsInput (Some most) before after failed_before failed_after (Err reads.OutOfMemory) = failed_after ≡ failed_before
+
+-- The commands that read a record.
+abbrev pub ReadsRecord : Command → Type 0
+ReadsRecord commands.Script = ⊥
+ReadsRecord commands.Record = ⊥
+ReadsRecord commands.Audit = Unit {0}
+ReadsRecord commands.Json = ⊥
+ReadsRecord commands.Migrate = Unit {0}
+ReadsRecord (commands.Sample seed clients ops) = ⊥
+
+-- What a command answers to the input of its source.
+pub record IsOutput (command : Command) (before after : Option (List ℕ)) (failed_before failed_after : ℕ) (output : Output) : Type 0 where
+  pub input : List ℕ
+  pub input_read : ReadsInput (limit_of command) before after failed_before failed_after (Ok input)
+  pub are_runs : AreRuns command input
+  pub output_is : output ≡ output_of_accepted command (accepted command input)
+
+abbrev pub AnswersInput : Command → Option (List ℕ) → Option (List ℕ) → ℕ → ℕ → Result Output ReadError → Type 0
+AnswersInput command before after failed_before failed_after (Ok output) = IsOutput command before after failed_before failed_after output
+AnswersInput command before after failed_before failed_after (Err reads.TooLong) =
+    ReadsInput (limit_of command) before after failed_before failed_after (Err reads.TooLong)
+AnswersInput command before after failed_before failed_after (Err reads.Failed) =
+    ReadsInput (limit_of command) before after failed_before failed_after (Err reads.Failed)
+AnswersInput command before after failed_before failed_after (Err reads.OutOfMemory) =
+    IsRead (limit_of command) OutOfMemory before after × (failed_after ≡ failed_before)
 
 -- How writing the text of a status ends.
 abbrev pub EndsWriting : Status → List ℕ → Option (List ℕ) → Option (List ℕ) → ℕ → ℕ → Status → Type 0

@@ -5,7 +5,8 @@
 // `specs/Answer.antt` comes first: what each status promises. `specs/Commands.antt` has the words and what each command
 // reads, `specs/Accepting.antt` the run that a command speaks of, `specs/Texts.antt` what is told of it and the lines that
 // stand in place of that, and `Headline` of faust_verdict what is promised of each run. `specs/Forms.antt` and
-// `specs/Output.antt` say the same of words and inputs as functions, and help the proofs.
+// `specs/Output.antt` say the same of words and inputs as functions, and help the proofs, as `specs/RecordInput.antt` does:
+// a record is read as it comes, and its text isn't held.
 //
 // What a script is, how it is played, how a record reads, when a run is clean and what a report says are the business of
 // the crates below: `parsed`, `played`, `generated`, `read`, `record_text`, `premises_of`, `findings_of`,
@@ -13,9 +14,11 @@
 #![tactic(auto)]
 
 mod accepting;
+mod input;
 pub mod laws;
 mod lines;
 mod output;
+mod record_input;
 #[cfg(test)]
 mod tests;
 mod top;

@@ -48,7 +48,8 @@ fn accept_whole(alloc: Global, command: Command, input: Bytes) -> Result<Accepte
     accept(alloc, command, input.as_slice())
 }
 
-fn refused_output(alloc: Global, line: u64, cause: Cause) -> Result<Output, OutOfMemory>
+/// The line that stands in place of what a command tells, where a line of its input is refused.
+pub fn refused_output(alloc: Global, line: u64, cause: Cause) -> Result<Output, OutOfMemory>
     ensures { IfOk result (λ output. output ≡ output_of_refusal (record { line = line; cause = cause })) }
 {
     let text = refusal_line(alloc, line, cause.text().as_bytes())?;
@@ -58,7 +59,12 @@ fn refused_output(alloc: Global, line: u64, cause: Cause) -> Result<Output, OutO
     })
 }
 
-fn accepted_output(alloc: Global, command: Command, taken: Accepted) -> Result<Output, OutOfMemory>
+/// What a command answers where it accepted a run.
+pub fn accepted_output(
+    alloc: Global,
+    command: Command,
+    taken: Accepted,
+) -> Result<Output, OutOfMemory>
     requires { IsPrintable taken }
     ensures { IfOk result (λ output. output ≡ output_of_judged command taken (verdict_for command taken.run)) }
 {

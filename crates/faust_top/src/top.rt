@@ -1,12 +1,11 @@
 ghost use Rattle.std.specs.Prelude.{map, string_bytes};
 ghost use Rattle.faust_top.specs.Answer.{IsAnswer};
-ghost use Rattle.faust_top.specs.Commands.{limit_of};
-ghost use Rattle.faust_top.specs.Output.{EndsWriting, ReadsInput};
+ghost use Rattle.faust_top.specs.Output.{EndsWriting};
 
-use crate::output::answer;
+use crate::input::answer_to;
 use crate::words::Command;
-use faust_io::{ReadError, Sink, Source, read_whole, write_whole};
-use faust_types::{Bytes, OutOfMemory, Status};
+use faust_io::{ReadError, Sink, Source, write_whole};
+use faust_types::Status;
 use faust_verdict::usage_line;
 use std::alloc::Global;
 
@@ -35,29 +34,11 @@ pub fn run<S: Source, K: Sink>(
     let Some(command) = Command::of(words) else {
         return written(sink, usage_line(), Status::Usage);
     };
-    let input = match read_input(alloc, source, command) {
-        Ok(input) => input,
-        Err(ReadError::TooLong) => return written(sink, TOO_LONG, Status::Refused),
-        Err(ReadError::Failed) => return Status::ReadFault,
-        Err(ReadError::OutOfMemory) => return Status::OutOfMemory,
-    };
-    match answer(alloc, command, input) {
+    match answer_to(alloc, source, command) {
         Ok(output) => written(sink, output.text.as_slice(), output.status),
-        Err(OutOfMemory) => Status::OutOfMemory,
-    }
-}
-
-/// The input of a command: all bytes of the source where it reads any.
-fn read_input<S: Source>(
-    alloc: Global,
-    source: &mut S,
-    command: Command,
-) -> Result<Bytes, ReadError>
-    ensures { ReadsInput (limit_of command) (S.left source.old) (S.left source.new) (S.faults source.old) (S.faults source.new) result }
-{
-    match command.limit() {
-        Some(limit) => read_whole(alloc, source, limit),
-        None => Ok(Bytes::new(alloc)),
+        Err(ReadError::TooLong) => written(sink, TOO_LONG, Status::Refused),
+        Err(ReadError::Failed) => Status::ReadFault,
+        Err(ReadError::OutOfMemory) => Status::OutOfMemory,
     }
 }
 

@@ -31,6 +31,9 @@ const PLAIN_COMMANDS: [Command; 5] = [
 
 const SAMPLE: &[u8] = b"sample";
 
+/// The most bytes of a record.
+pub const MAX_RECORD_LEN: usize = 400_000_000;
+
 impl Command {
     /// The command whose form the words are.
     pub fn of(words: &[String]) -> Option<Command>
@@ -92,7 +95,7 @@ impl Command {
     {
         match self {
             Command::Script | Command::Record | Command::Json => Some(1_048_576),
-            Command::Audit | Command::Migrate => Some(400_000_000),
+            Command::Audit | Command::Migrate => Some(MAX_RECORD_LEN),
             Command::Sample { .. } => None,
         }
     }

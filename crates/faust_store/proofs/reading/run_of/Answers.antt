@@ -1,36 +1,10 @@
-use Rattle.std.proofs.Common.{◌≡◌, ap, sym, ◌∙◌, subst, arith, Result, Err}
+use Rattle.std.proofs.Common.{subst}
 use Rattle.faust_text.specs.Lines.{lines_of}
-use Rattle.faust_record.specs.Runs.{Run}
-use Rattle.faust_store.specs.InRange.{IsStage}
-use Rattle.faust_store.specs.Reading.{Reads, Refusal, finished, lines_from, read}
-use Rattle.faust_store.proofs.ReadLaws.{line_taken, line_refused, lines_ended}
+use Rattle.faust_store.specs.declared.stage.Stage.{Stage}
+use Rattle.faust_store.specs.Reading.{Reads, lines_from, read}
 use Rattle.faust_store.proofs.reading.run_of.Goals as goal
 
-pub loop-line-init : goal.loop-line-init
-unfolding read
-loop-line-init c = record {
-  in_range = subst IsStage (sym c.start-stage.ensures) tt;
-  counted = omega arith;
-  within = omega arith;
-  so_far = ap (λ st. lines_from st 1 (lines_of c.args.input.now)) c.start-stage.ensures;
-}
-
-pub returns-in-Err : goal.returns-in-Err
-returns-in-Err c =
-    subst (λ e. Reads (Err e) (read c.args.input.now)) (sym c.refused.ensures)
-    (line_refused c.args.input.now c.loop-line.from c.loop-line.number c.in-Some.line c.loop-line.stage c.in-Err.error c.in-Some.ensures
-    c.in-Err.ensures.gives c.loop-line.invariant.so_far)
-
-pub loop-line-preserved : goal.loop-line-preserved
-loop-line-preserved c = record {
-  in_range = c.in-Ok.ensures.stage;
-  counted = omega (arith, c.in-Some.ensures.not_before);
-  within = omega (arith, c.in-Some.ensures.within);
-  so_far = sym (line_taken c.args.input.now c.loop-line.from c.loop-line.number c.in-Some.line c.loop-line.stage c.in-Ok.stage c.in-Some.ensures c.in-Ok.ensures.gives) ∙ c.loop-line.invariant.so_far;
-}
-
 pub returns : goal.returns
+unfolding read
 returns c =
-    let left : finished c.loop-line.stage c.loop-line.number ≡ read c.args.input.now =
-    sym (lines_ended c.args.input.now c.loop-line.from c.loop-line.number c.loop-line.stage c.in_default.ensures) ∙ c.loop-line.invariant.so_far in
-    subst (λ (due : Result Run Refusal). Reads c.finish.result due) left c.finish.ensures
+    subst (λ (stage : Stage). Reads c.run_from.result (lines_from stage 1 (lines_of c.args.input.now))) c.start.ensures c.run_from.ensures

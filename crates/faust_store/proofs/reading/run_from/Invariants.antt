@@ -1,15 +1,15 @@
 use Rattle.std.proofs.Common.{◌≡◌, ◌+◌, ◌-◌, ◌≤◌, length, drop}
 use Rattle.faust_text.specs.Lines.{lines_of}
 use Rattle.faust_store.specs.InRange.{IsStage}
-use Rattle.faust_store.specs.Reading.{lines_from, read}
-use Rattle.faust_store.proofs.reading.run_of.Given as goal
+use Rattle.faust_store.specs.Reading.{lines_from}
+use Rattle.faust_store.proofs.reading.run_from.Given as goal
 
 abbrev pub invariant-loop-line : goal.invariant-loop-line
 invariant-loop-line l = record {
   in_range : IsStage l.stage;
-  counted : l.number ≤ l.from + 1;
+  counted : l.number ≤ l.fn.first + l.from;
   within : l.from ≤ length l.input + 1;
-  so_far : lines_from l.stage l.number (lines_of (drop l.from l.input)) ≡ read l.input;
+  so_far : lines_from l.stage l.number (lines_of (drop l.from l.input)) ≡ lines_from l.fn.start l.fn.first (lines_of l.input);
 }
 
 abbrev pub decreases-loop-line : goal.decreases-loop-line
