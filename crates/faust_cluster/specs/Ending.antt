@@ -4,6 +4,8 @@ use Rattle.std.specs.Prelude.{◌≡◌, ◌<◌, ◌+◌, ℕ, Option, None, So
 use Rattle.faust_io.specs.Faults.{CountsFault}
 use Rattle.faust_types.specs.declared.arrival.Closing.{Closing}
 use Rattle.faust_types.specs.declared.arrival.Closing.TheVariants as closings
+use Rattle.faust_node.specs.declared.error.NodeError.{NodeError}
+use Rattle.faust_node.specs.declared.error.NodeError.TheVariants as errors
 use Rattle.faust_cluster.specs.declared.health.Health.{Health}
 use Rattle.faust_cluster.specs.declared.health.Health.TheVariants.{Sound, LinkFailed, Starved}
 
@@ -33,6 +35,16 @@ health_of closings.Memory = Starved
 abbrev pub health_at : Option Closing → Health
 health_at None = Sound
 health_at (Some cause) = health_of cause
+
+-- What a user's error says: the causes of its cell come with its loops, so only want of memory says anything.
+abbrev pub health_of_user : Option NodeError → Health
+health_of_user None = Sound
+health_of_user (Some errors.TooLong) = Sound
+health_of_user (Some errors.NoRegister) = Sound
+health_of_user (Some (errors.Failed notice)) = Sound
+health_of_user (Some (errors.Closed cause)) = Sound
+health_of_user (Some errors.Full) = Sound
+health_of_user (Some errors.OutOfMemory) = Starved
 
 -- The worse of two: want of memory is the worst.
 abbrev pub worse : Health → Health → Health

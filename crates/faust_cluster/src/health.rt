@@ -1,7 +1,6 @@
 // How a run went, as its links and cells tell it.
-ghost use Rattle.std.specs.Prelude.{◌≡◌, ◌≢◌};
-ghost use Rattle.faust_cluster.specs.declared.health.Health.TheVariants.{LinkFailed};
-ghost use Rattle.faust_cluster.specs.Ending.{health_at, health_of, worse};
+ghost use Rattle.std.specs.Prelude.{◌≡◌};
+ghost use Rattle.faust_cluster.specs.Ending.{health_at, health_of, health_of_user, worse};
 
 use faust_node::NodeError;
 use faust_types::Closing;
@@ -47,7 +46,7 @@ impl Health {
 
     /// What a user's error says: only want of memory counts, as the causes of its cell come with its loops.
     pub fn of_user(stopped: Option<NodeError>) -> Health
-        ensures { result ≢ LinkFailed }
+        ensures { result ≡ health_of_user stopped }
     {
         match stopped {
             Some(NodeError::OutOfMemory) => Health::Starved,

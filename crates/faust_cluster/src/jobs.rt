@@ -1,7 +1,7 @@
 // What the threads of a live run do: for each client its user, the four loops over its links, its ticks, and its
 // connection at the server. The end of a link has the cause that stopped the loop over it: until then no call failed.
 ghost use Rattle.std.specs.Prelude.{◌≡◌};
-ghost use Rattle.faust_cluster.specs.Ending.{CountsBoth, CountsHealth, CountsStop};
+ghost use Rattle.faust_cluster.specs.Ending.{CountsBoth, CountsHealth, CountsStop, health_at};
 
 use crate::cast::Cast;
 use crate::health::Health;
@@ -48,7 +48,8 @@ impl<I: FrameIn + Drop> Replies<I> {
 
     /// Gives the link back.
     pub fn give_back<N: Net<In = I>>(self, net: &mut N) -> Health
-        ensures { CountsHealth result (N.faults net.old) (N.faults net.new) }
+        ensures health { result ≡ health_at self.stopped }
+        ensures count { CountsHealth result (N.faults net.old) (N.faults net.new) }
     {
         net.back_in(self.link);
         Health::at(self.stopped)
@@ -95,7 +96,8 @@ impl<O: FrameOut + Drop> Outbox<O> {
 
     /// Gives the link back.
     pub fn give_back<N: Net<Out = O>>(self, net: &mut N) -> Health
-        ensures { CountsHealth result (N.faults net.old) (N.faults net.new) }
+        ensures health { result ≡ health_at self.stopped }
+        ensures count { CountsHealth result (N.faults net.old) (N.faults net.new) }
     {
         net.back_out(self.link);
         Health::at(self.stopped)
@@ -136,7 +138,8 @@ impl<P: PostIn + Drop> Inbox<P> {
 
     /// Gives the post back.
     pub fn give_back<N: Net<Pin = P>>(self, net: &mut N) -> Health
-        ensures { CountsHealth result (N.faults net.old) (N.faults net.new) }
+        ensures health { result ≡ health_at self.stopped }
+        ensures count { CountsHealth result (N.faults net.old) (N.faults net.new) }
     {
         net.back_pin(self.post);
         Health::at(self.stopped)
@@ -177,7 +180,8 @@ impl<Q: PostOut + Drop> Postbox<Q> {
 
     /// Gives the post back.
     pub fn give_back<N: Net<Pout = Q>>(self, net: &mut N) -> Health
-        ensures { CountsHealth result (N.faults net.old) (N.faults net.new) }
+        ensures health { result ≡ health_at self.stopped }
+        ensures count { CountsHealth result (N.faults net.old) (N.faults net.new) }
     {
         net.back_pout(self.post);
         Health::at(self.stopped)
@@ -231,7 +235,8 @@ impl<I: FrameIn + Drop, O: FrameOut + Drop> Connection<I, O> {
 
     /// Gives both ends back.
     pub fn give_back<N: Net<In = I, Out = O>>(self, net: &mut N) -> Health
-        ensures { CountsHealth result (N.faults net.old) (N.faults net.new) }
+        ensures health { result ≡ health_at self.stopped }
+        ensures count { CountsHealth result (N.faults net.old) (N.faults net.new) }
     {
         net.back_in(self.input);
         net.back_out(self.output);
