@@ -36,7 +36,7 @@ impl BodySet {
     pub fn add(&mut self, body: Bytes) -> Result<(), OutOfMemory>
         ensures { OnOk result ((made : List (List ℕ)) → HoldsBodies self.old made → HoldsBodies self.new (made ++ body ∷ [])) }
     {
-        self.bodies.insert(body.into_vec())?;
+        self.bodies.insert(body.into_vec()?)?;
         Ok(())
     }
 

@@ -58,7 +58,7 @@ impl Book {
         ensures { IfOk result (λ hashed. hashed ≡ input) }
     {
         let digest = input_digest(input.as_slice());
-        self.values.insert(input.copy()?.into_vec(), digest)?;
+        self.values.insert(input.copy()?.into_vec()?, digest)?;
         Ok(Hashed::new(input, digest))
     }
 

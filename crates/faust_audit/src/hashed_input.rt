@@ -3,7 +3,7 @@ ghost use Rattle.std.specs.Prelude.{◌≡◌, IfOk, IfSome};
 ghost use Rattle.faust_hash.specs.Chain.{chain_input, input_digest, value_input};
 
 use faust_hash::input_digest;
-use faust_types::{Bytes, Digest, OutOfMemory, Sequence};
+use faust_types::{Bytes, Digest, OutOfMemory};
 use std::alloc::Global;
 use std::marker::Model;
 
@@ -77,7 +77,7 @@ impl Hashed {
 pub fn value_input(alloc: Global, value: &[u8]) -> Result<Bytes, OutOfMemory>
     ensures { IfOk result (λ input. input ≡ value_input value.now) }
 {
-    let mut input = Sequence::new(alloc);
+    let mut input = Bytes::new(alloc);
     input.push(VALUE)?;
     input.append(value)?;
     Ok(input)
@@ -87,7 +87,7 @@ pub fn value_input(alloc: Global, value: &[u8]) -> Result<Bytes, OutOfMemory>
 pub fn chain_input(alloc: Global, before: Option<Digest>, k: u8) -> Result<Bytes, OutOfMemory>
     ensures { IfOk result (λ input. input ≡ chain_input before k) }
 {
-    let mut input = Sequence::new(alloc);
+    let mut input = Bytes::new(alloc);
     input.push(CHAIN)?;
     if let Some(digest) = before {
         input.append(&digest)?;

@@ -55,7 +55,7 @@ fn post_body(alloc: Global, post: &Post) -> Result<Bytes, OutOfMemory>
 {
     let bytes = post.bytes.as_slice();
     let end = bytes.len().saturating_sub(TAG_LEN);
-    let mut body = Sequence::new(alloc);
+    let mut body = Bytes::new(alloc);
     body.append(&[PEER, WIRE_VERSION])?;
     if end >= 1 {
         body.append(&bytes[1..end])?;

@@ -3,7 +3,7 @@ ghost use Rattle.std.specs.Prelude.{◌≡◌, ◌++◌, IfOk, OnOk};
 ghost use Rattle.faust_outcome.specs.Outcomes.{frame_text, journal_text, link_fault_text, sent_word, start_fault_text};
 
 use faust_text::{put_hex, put_number};
-use faust_types::{Bytes, OutOfMemory, Sequence};
+use faust_types::{Bytes, OutOfMemory};
 use std::alloc::Global;
 
 /// The line of a thread whose start was refused.
@@ -24,7 +24,7 @@ pub fn link_fault_line() -> &'static [u8]
 pub(crate) fn journal_line(alloc: Global, place: u8, client: u8) -> Result<Bytes, OutOfMemory>
     ensures { IfOk result (λ text. text ≡ journal_text place client) }
 {
-    let mut text = Sequence::from_slice(alloc, b"journal differs: place ")?;
+    let mut text = Bytes::from_slice(alloc, b"journal differs: place ")?;
     put_number(&mut text, u64::from(place))?;
     text.append(b" client ")?;
     put_number(&mut text, u64::from(client))?;
@@ -42,7 +42,7 @@ pub(crate) fn frame_line(
 ) -> Result<Bytes, OutOfMemory>
     ensures { IfOk result (λ text. text ≡ frame_text client index sent.now got.now) }
 {
-    let mut text = Sequence::from_slice(alloc, b"frame differs: client ")?;
+    let mut text = Bytes::from_slice(alloc, b"frame differs: client ")?;
     put_number(&mut text, u64::from(client))?;
     text.append(b" message ")?;
     put_number(&mut text, index)?;

@@ -26,7 +26,7 @@ pub(crate) fn short_text(
 {
     let made = receipts_in(receipts.as_slice());
     let of = u64::from(command.clients) * command.ops;
-    let mut out = Sequence::new(alloc);
+    let mut out = Bytes::new(alloc);
     put_clients(&mut out, command.clients)?;
     put_operations(&mut out, made, of)?;
     put_departure(&mut out, findings.departure)?;

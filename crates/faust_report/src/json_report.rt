@@ -3,7 +3,7 @@ ghost use Rattle.serde_json.specs.View.{view};
 ghost use Rattle.faust_report.specs.Json.{cut_data, cuts_in, departure_data, done_in, failure_data, failures_in, json_text, list_data, name_data, names_data, number_data, order_data, report_data};
 
 use faust_record::{Fact, Findings};
-use faust_types::{Bytes, Cut, Names, Notice, OpName, OutOfMemory, Sequence};
+use faust_types::{Bytes, Cut, Names, Notice, OpName, OutOfMemory};
 use serde_json::{Value, json};
 use std::alloc::{AllocError, Global};
 
@@ -13,7 +13,7 @@ pub fn json(alloc: Global, findings: &Findings) -> Result<Bytes, OutOfMemory>
 {
     let report = report_value(alloc, findings)?;
     let line = report.to_string(alloc)?;
-    let mut text = Sequence::from_vec(line.into_bytes());
+    let mut text = Bytes::from_vec(line.into_bytes());
     text.push(b'\n')?;
     Ok(text)
 }

@@ -5,14 +5,14 @@ ghost use Rattle.faust_report.specs.Text.{body_lines, body_text, entry_lines, fa
 use crate::entry_lines::put_fact;
 use crate::lines::{put_clients_line, put_departure, put_entries_line, put_order, put_views};
 use faust_record::{Fact, Findings};
-use faust_types::{Bytes, OutOfMemory, Sequence};
+use faust_types::{Bytes, OutOfMemory};
 use std::alloc::Global;
 
 /// The report of the findings.
 pub fn text(alloc: Global, findings: &Findings) -> Result<Bytes, OutOfMemory>
     ensures { IfOk result (λ text. text ≡ report_text findings.now) }
 {
-    let mut out = Sequence::new(alloc);
+    let mut out = Bytes::new(alloc);
     out.append(b"faust report 1\n")?;
     put_body(&mut out, findings)?;
     put_departure(&mut out, findings.departure)?;
@@ -25,7 +25,7 @@ pub fn text(alloc: Global, findings: &Findings) -> Result<Bytes, OutOfMemory>
 pub fn body(alloc: Global, findings: &Findings) -> Result<Bytes, OutOfMemory>
     ensures { IfOk result (λ text. text ≡ body_text findings.now) }
 {
-    let mut out = Sequence::new(alloc);
+    let mut out = Bytes::new(alloc);
     put_body(&mut out, findings)?;
     Ok(out)
 }

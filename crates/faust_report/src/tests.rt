@@ -1,6 +1,6 @@
 use crate::{body, json, summary, text};
 use faust_record::{Fact, Findings};
-use faust_types::{Answer, Kind, Names, Notice, OpName, Operation, OutOfMemory, Sequence};
+use faust_types::{Answer, Bytes, Kind, Names, Notice, OpName, Operation, OutOfMemory, Sequence};
 use std::alloc::Global;
 use std::test::Fail;
 
@@ -95,7 +95,7 @@ fn every_line(alloc: Global) -> Result<Findings, OutOfMemory> {
 fn read(alloc: Global, client: u8, value: Option<&[u8]>, asof: u64) -> Result<Answer, OutOfMemory> {
     let value = match value {
         None => None,
-        Some(value) => Some(Sequence::from_slice(alloc, value)?),
+        Some(value) => Some(Bytes::from_slice(alloc, value)?),
     };
     Ok(Answer {
         op: operation(client, 7, Kind::Read, 1),

@@ -6,7 +6,7 @@ ghost use Rattle.faust_report.specs.Summary.{completed, completed_by, cut_in, cu
 use crate::lines::{put_clients_line, put_departure, put_entries_line};
 use faust_record::{Fact, Findings};
 use faust_text::put_number;
-use faust_types::{Bytes, Cut, OutOfMemory, Sequence};
+use faust_types::{Bytes, Cut, OutOfMemory};
 use std::alloc::Global;
 
 /// The summary of the findings of a run that was made from a seed.
@@ -14,7 +14,7 @@ pub fn summary(alloc: Global, findings: &Findings, seed: u64) -> Result<Bytes, O
     ensures { IfOk result (λ text. text ≡ summary_text seed findings.now) }
 {
     let facts = findings.facts.as_slice();
-    let mut out = Sequence::new(alloc);
+    let mut out = Bytes::new(alloc);
     put_sample(&mut out, seed, findings.clients)?;
     put_entries_line(&mut out, findings.entries)?;
     put_operations(&mut out, findings.begun, facts)?;

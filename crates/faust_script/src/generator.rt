@@ -6,7 +6,7 @@ ghost use Rattle.faust_script.specs.InRange.{IsScript};
 use crate::event::Event;
 use crate::progress::Progress;
 use crate::script::{Events, Script};
-use faust_types::{Config, OutOfMemory, Sequence};
+use faust_types::{Bytes, Config, OutOfMemory};
 use std::alloc::Global;
 
 const KEY: [u8; 16] = [0, 1, 2, 3, 4, 5, 6, 7, 8, 9, 10, 11, 12, 13, 14, 15];
@@ -53,7 +53,7 @@ fn sample_config(alloc: Global, clients: u8) -> Result<Config, OutOfMemory>
 {
     Ok(Config {
         clients,
-        key: Sequence::from_slice(alloc, &KEY)?,
+        key: Bytes::from_slice(alloc, &KEY)?,
         delta: 1000,
         dummy: 1_000_000,
         wire: 1,

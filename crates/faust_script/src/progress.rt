@@ -200,7 +200,7 @@ fn able_at(actors: &[Actor], may_begin: bool, place: u64) -> u8
 fn value_of(alloc: Global, client: u8, number: u64) -> Result<Bytes, OutOfMemory>
     ensures { IfOk result (λ value. value ≡ value_of client number) }
 {
-    let mut value = Sequence::new(alloc);
+    let mut value = Bytes::new(alloc);
     value.reserve(24)?;
     put_number(&mut value, u64::from(client))?;
     value.push(b'-')?;

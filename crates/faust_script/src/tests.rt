@@ -1,7 +1,7 @@
 use crate::error::ScriptError;
 use crate::parser::parse;
 use faust_text::Cause;
-use faust_types::{Bytes, OutOfMemory, Sequence};
+use faust_types::{Bytes, OutOfMemory};
 use std::process::Abort;
 
 mod accepted;
@@ -19,7 +19,7 @@ fn is_refused(
     line: u64,
     cause: Cause,
 ) -> Result<bool, OutOfMemory> {
-    let mut text: Bytes = Sequence::new(rt.alloc());
+    let mut text: Bytes = Bytes::new(rt.alloc());
     for piece in pieces {
         text.append(piece)?;
     }

@@ -8,7 +8,7 @@ use crate::reading::{refused, run_from};
 use crate::stage::Stage;
 use faust_record::RunRecord;
 use faust_text::{Cause, Line, MAX_LINE_LEN, line_at};
-use faust_types::{Bytes, OutOfMemory, Sequence};
+use faust_types::{Bytes, OutOfMemory};
 use std::alloc::Global;
 
 /// A record whose bytes come piece by piece, cut anywhere. It keeps what the whole lines so far make, and of the bytes
@@ -40,7 +40,7 @@ impl Feed {
         Feed {
             stage: Stage::start(),
             number: 1,
-            rest: Sequence::new(alloc),
+            rest: Bytes::new(alloc),
             left: limit,
         }
     }
@@ -149,7 +149,7 @@ fn next_feed(alloc: Global, taken: Taken, bytes: &[u8], left: usize) -> Result<F
             cause: Cause::TooLong,
         });
     }
-    match Sequence::from_slice(alloc, rest) {
+    match Bytes::from_slice(alloc, rest) {
         Ok(rest) => Ok(Feed {
             stage: taken.stage,
             number: taken.number,

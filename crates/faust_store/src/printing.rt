@@ -8,7 +8,7 @@ ghost use Rattle.faust_store.specs.Words.{word_text};
 use crate::word::EntryWord;
 use faust_record::{Entry, Input, RunRecord};
 use faust_text::{Title, put_head, put_hex, put_number, put_value};
-use faust_types::{Bytes, OutOfMemory, Sequence};
+use faust_types::{Bytes, OutOfMemory};
 use std::alloc::Global;
 
 /// The record of a run, of version 1 or 2; version 1 is of runs of wire 1. It takes time in proportion to its length.
@@ -17,7 +17,7 @@ pub fn print_record(alloc: Global, run: &RunRecord, version: u8) -> Result<Bytes
     requires version { IsTextVersion version run.now.config.wire }
     ensures { IfOk result (λ text. text ≡ record_text run.now version) }
 {
-    let mut text = Sequence::new(alloc);
+    let mut text = Bytes::new(alloc);
     put_head(&mut text, Title::Record, version, run.config())?;
     for q in 0..run.len() {
         if let Some(entry) = run.entry(q) {

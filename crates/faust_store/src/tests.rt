@@ -4,7 +4,7 @@ use crate::reading::read_record;
 use crate::stage::MAX_RECORD_ENTRIES;
 use faust_record::RunRecord;
 use faust_text::Cause;
-use faust_types::{Bytes, OutOfMemory, Sequence};
+use faust_types::{Bytes, OutOfMemory};
 use std::alloc::Global;
 use std::process::Abort;
 use std::test::Fail;
@@ -33,7 +33,7 @@ const WHOLE: [&[u8]; 7] = [
 
 /// The text of these pieces.
 fn joined(rt: &(impl Abort + AllocGlobal), pieces: &[&[u8]]) -> Result<Bytes, OutOfMemory> {
-    let mut text: Bytes = Sequence::new(rt.alloc());
+    let mut text: Bytes = Bytes::new(rt.alloc());
     for piece in pieces {
         text.append(piece)?;
     }

@@ -6,7 +6,7 @@ ghost use Rattle.faust_text.specs.Tokens.{joined};
 
 use crate::head::Title;
 use crate::print::{put_hex, put_number};
-use faust_types::{Bytes, Config, OutOfMemory, Sequence};
+use faust_types::{Bytes, Config, OutOfMemory};
 use std::alloc::Global;
 
 /// Puts the lines of a head behind the text. Format 1 has no line of the wire, and so stands for a
@@ -27,7 +27,7 @@ pub fn put_head(
 fn head_text(alloc: Global, title: Title, format: u8, config: &Config) -> Result<Bytes, OutOfMemory>
     ensures { IfOk result (λ text. text ≡ head_text title format config.now) }
 {
-    let mut text = Sequence::new(alloc);
+    let mut text = Bytes::new(alloc);
     put_title(&mut text, title, format)?;
     put_wire(&mut text, format, config.wire)?;
     put_named(&mut text, b"clients", u64::from(config.clients))?;

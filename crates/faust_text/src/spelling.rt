@@ -5,7 +5,7 @@ ghost use Rattle.std.specs.List.{list_all};
 ghost use Rattle.faust_text.specs.Values.{Decodes, Reads, bytes_of, digit_worth, hex_of, is_hex, is_plain, unquoted, value_of, within};
 
 use crate::error::ValueError;
-use faust_types::{Bytes, OutOfMemory, Sequence};
+use faust_types::{Bytes, OutOfMemory};
 use std::alloc::Global;
 
 /// The value of a token: printable bytes without `"` and `\` between quotation marks, or hexadecimal digits behind
@@ -29,7 +29,7 @@ fn unquoted(alloc: Global, body: &[u8], limit: usize) -> Result<Bytes, ValueErro
     if *mark != b'"' || value.len() > limit || !is_all_plain(value) {
         return Err(ValueError::Bad);
     }
-    Ok(Sequence::from_slice(alloc, value)?)
+    Ok(Bytes::from_slice(alloc, value)?)
 }
 
 /// The bytes of a token: lower-case hexadecimal digits behind `0x`. `Bad` says that the token is no such thing, or
@@ -62,7 +62,7 @@ fn decoded(alloc: Global, digits: &[u8]) -> Result<Bytes, ValueError>
     }
     let mut bytes = zeros(alloc, digits.len() / 2)?;
     if decode_into(digits, bytes.as_mut_slice()) {
-        Ok(Sequence::from_vec(bytes))
+        Ok(Bytes::from_vec(bytes))
     } else {
         Err(ValueError::Bad)
     }

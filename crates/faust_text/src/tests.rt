@@ -3,7 +3,7 @@ use crate::{
     hex_bytes, line_at, lines, number, put_head, put_hex, put_number, put_value, split_token,
     tokens, value,
 };
-use faust_types::{Config, Kind, OutOfMemory, Sequence};
+use faust_types::{Bytes, Config, Kind, OutOfMemory};
 use std::test::Fail;
 
 fn span(start: usize, end: usize) -> Span {
@@ -87,7 +87,7 @@ fn numbers_are_read_and_printed(rt: HostRuntime) -> Result<(), Fail> {
         (18_446_744_073_709_551_615, b"=18446744073709551615"),
     ];
     for (x, text) in printed.iter() {
-        let mut out = Sequence::from_slice(rt.alloc(), b"=")?;
+        let mut out = Bytes::from_slice(rt.alloc(), b"=")?;
         put_number(&mut out, *x)?;
         assert_eq!(rt; out.as_slice(), *text);
     }
@@ -176,11 +176,11 @@ fn values_are_printed(rt: HostRuntime) -> Result<(), OutOfMemory> {
         (Some(b"\x00\xff"), b"=0x00ff"),
     ];
     for (shown, text) in cases.iter() {
-        let mut out = Sequence::from_slice(rt.alloc(), b"=")?;
+        let mut out = Bytes::from_slice(rt.alloc(), b"=")?;
         put_value(&mut out, *shown)?;
         assert_eq!(rt; out.as_slice(), *text);
     }
-    let mut out = Sequence::from_slice(rt.alloc(), b"=")?;
+    let mut out = Bytes::from_slice(rt.alloc(), b"=")?;
     put_hex(&mut out, b"\x01\xab")?;
     assert_eq!(rt; out.as_slice(), b"=01ab".as_slice());
     assert_eq!(rt; Cause::AfterEnd.text(), "after end");
@@ -266,13 +266,13 @@ fn heads_are_read(rt: HostRuntime) -> Result<(), Fail> {
     let (format, config) = read_head(&rt, form(Title::Record, 2, 32), &record)?.ok_or("not whole")?;
     assert_eq!(rt; format, 2);
     assert_eq!(rt; config.wire, 2);
-    let mut out = Sequence::from_slice(rt.alloc(), b"=")?;
+    let mut out = Bytes::from_slice(rt.alloc(), b"=")?;
     put_head(&mut out, Title::Record, 2, &config)?;
     assert_eq!(rt;
         out.as_slice(),
         b"=faust-record 2\nwire 2\nclients 2\nkey 00\ndelta 1000\ndummy 1000000\n".as_slice()
     );
-    let mut out = Sequence::new(rt.alloc());
+    let mut out = Bytes::new(rt.alloc());
     put_head(&mut out, Title::Script, 1, &config)?;
     assert_eq!(rt;
         out.as_slice(),

@@ -1,5 +1,6 @@
 pub mod Clients
 pub mod Bytes
+pub mod Held
 pub mod Versions
 pub mod Outcomes
 pub mod Ranges

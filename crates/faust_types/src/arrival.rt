@@ -1,5 +1,6 @@
+use crate::bytes::Bytes;
 use crate::operation::Notice;
-use crate::sequence::{Bytes, Sequence};
+use crate::sequence::Sequence;
 
 /// A message of a client that the server accepted, with the number that the one counter gave to this event.
 #[derive(Debug, Drop)]

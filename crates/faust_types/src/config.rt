@@ -1,7 +1,7 @@
 ghost use Rattle.std.specs.Prelude.{◌≡◌, IfOk};
 
+use crate::bytes::Bytes;
 use crate::out_of_memory::OutOfMemory;
-use crate::sequence::Bytes;
 
 /// What the clients of a run share. `key` has 1 to 128 bytes, `clients` is 2 to 32, and the two spans of
 /// moments are 1 to 2^40 - 1: another client is probed after `delta` without news of it, and an idle client

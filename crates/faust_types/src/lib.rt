@@ -12,6 +12,7 @@
 #![tactic(auto)]
 
 mod arrival;
+mod bytes;
 mod config;
 pub mod laws;
 mod limits;
@@ -27,6 +28,7 @@ mod tests;
 mod version;
 
 pub use arrival::{Arrival, Arrivals, Closing};
+pub use bytes::Bytes;
 pub use config::Config;
 pub use limits::{
     MAX_CLIENTS, MAX_KEY_LEN, MAX_MESSAGE_LEN, MAX_PENDING, MAX_TIMESTAMP, MAX_VALUE_LEN,
@@ -37,6 +39,6 @@ pub use message::{
 pub use operation::{Answer, Kind, Names, Notice, OpName, Operation};
 pub use out_of_memory::OutOfMemory;
 pub use outcome::{Clients, Cut, Outcome, Post, Posts};
-pub use sequence::{Bytes, Numbers, Sequence};
+pub use sequence::{Numbers, Sequence};
 pub use status::Status;
 pub use version::{Compared, Digest, Tag, Version};

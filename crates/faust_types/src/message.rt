@@ -3,9 +3,10 @@ ghost use Rattle.faust_types.specs.Clients.{IsClientCount};
 ghost use Rattle.faust_types.specs.Messages.{unmade};
 ghost use Rattle.faust_types.specs.Spelling.{announced, peer_byte, peer_content, peer_front};
 
+use crate::bytes::Bytes;
 use crate::operation::Kind;
 use crate::out_of_memory::OutOfMemory;
-use crate::sequence::{Bytes, Sequence};
+use crate::sequence::Sequence;
 use crate::spelling::{ABSENT, FAILURE, PROBE, VERSION};
 use crate::version::{Tag, Version};
 use std::alloc::Global;

@@ -1,7 +1,8 @@
 ghost use Rattle.std.specs.Prelude.{◌≡◌, IfOk};
 
+use crate::bytes::Bytes;
 use crate::out_of_memory::OutOfMemory;
-use crate::sequence::{Bytes, Sequence};
+use crate::sequence::Sequence;
 
 /// What an operation does to its register.
 #[derive(Clone, Copy, Debug, PartialEq, Eq)]

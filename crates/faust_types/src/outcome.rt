@@ -1,8 +1,9 @@
 ghost use Rattle.std.specs.Prelude.{◌≡◌, [], None};
 ghost use Rattle.faust_types.specs.Outcomes.{nothing};
 
+use crate::bytes::Bytes;
 use crate::operation::{Answer, Notice, Operation};
-use crate::sequence::{Bytes, Sequence};
+use crate::sequence::Sequence;
 use std::alloc::Global;
 
 /// A cut: entry j, counted from 1, is the number of own operations that client j is known to have in common.

@@ -10,9 +10,6 @@ pub struct Sequence<T> {
     items: Vec<T>,
 }
 
-/// Bytes: a value, a key, a message, a text.
-pub type Bytes = Sequence<u8>;
-
 /// Numbers.
 pub type Numbers = Sequence<u64>;
 

@@ -2,9 +2,9 @@
 ghost use Rattle.std.specs.Prelude.{◌≡◌, ◌*◌, ◌++◌, take, length, OnOk, OnErr};
 ghost use Rattle.faust_types.specs.Spelling.{kind_byte, optional};
 
+use crate::bytes::Bytes;
 use crate::operation::Kind;
 use crate::out_of_memory::OutOfMemory;
-use crate::sequence::Bytes;
 
 /// The flag of an optional piece that isn't there.
 pub const ABSENT: u8 = 0;

@@ -1,6 +1,6 @@
 use crate::{
-    Answer, Bytes, Commit, Compared, Config, Kind, Known, Mem, OpName, Operation, OutOfMemory,
-    Peer, PeerMessage, ReadPart, Reply, Sequence, Submit, Tuple, Version,
+    Answer, Bytes, Commit, Compared, Config, Kind, Known, Mem, Numbers, OpName, Operation,
+    OutOfMemory, Peer, PeerMessage, ReadPart, Reply, Sequence, Submit, Tuple, Version,
 };
 use std::alloc::Global;
 use std::test::Fail;
@@ -91,7 +91,7 @@ fn a_peer_message_has_its_front(rt: HostRuntime) -> Result<(), Fail> {
 
 #[test]
 fn lists_grow_and_are_cut(rt: HostRuntime) -> Result<(), Fail> {
-    let mut list = Bytes::new(rt.alloc());
+    let mut list = Numbers::new(rt.alloc());
     assert!(rt; list.is_empty());
     list.reserve(4)?;
     list.push(1)?;
@@ -103,6 +103,34 @@ fn lists_grow_and_are_cut(rt: HostRuntime) -> Result<(), Fail> {
     assert_eq!(rt; list.pop(), Some(4));
     list.push(2)?;
     assert_eq!(rt; list.copy()?.into_vec().as_slice(), [1, 2].as_slice());
+    assert_eq!(rt;
+        Numbers::from_vec(vec![in rt.alloc(); 5]?).as_slice(),
+        [5].as_slice()
+    );
+    Ok(())
+}
+
+#[test]
+fn shared_bytes_are_as_others(rt: HostRuntime) -> Result<(), Fail> {
+    let mut bytes = Bytes::new(rt.alloc());
+    assert!(rt; bytes.is_empty());
+    bytes.reserve(4)?;
+    bytes.push(1)?;
+    bytes.append(&[2, 3])?;
+    let mut shared = bytes.copy()?.shared().shared();
+    let mut copy = shared.copy()?;
+    copy.truncate(2);
+    assert_eq!(rt; copy.len(), 2);
+    copy.truncate(3);
+    copy.push(4)?;
+    copy.push(5)?;
+    copy.truncate(3);
+    assert_eq!(rt; copy.as_slice(), [1, 2, 4].as_slice());
+    shared.append(&[])?;
+    shared.reserve(1)?;
+    assert_eq!(rt; shared.as_slice(), bytes.as_slice());
+    assert_eq!(rt; copy.shared().into_vec()?.as_slice(), [1, 2, 4].as_slice());
+    assert_eq!(rt; shared.into_vec()?.as_slice(), [1, 2, 3].as_slice());
     assert_eq!(rt;
         Bytes::from_vec(vec![in rt.alloc(); 5]?).as_slice(),
         [5].as_slice()

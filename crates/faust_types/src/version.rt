@@ -3,8 +3,8 @@ ghost use Rattle.faust_types.specs.Clients.{IsClientCount, IsClient};
 ghost use Rattle.faust_types.specs.Versions.{Vector, IsVersion, IsAtMost, IsOrder, clients_of, timestamp_at, digest_at, initial, with_entry, stepped, is_at_most, compared, is_comparable, is_initial, is_same_digest, is_entry_at_most};
 ghost use Rattle.faust_types.specs.Spelling.{be64, optional, version_bytes};
 
+use crate::bytes::Bytes;
 use crate::out_of_memory::OutOfMemory;
-use crate::sequence::Bytes;
 use crate::spelling::put_optional;
 use std::alloc::Global;
 use std::marker::Model;

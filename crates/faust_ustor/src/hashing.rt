@@ -123,7 +123,7 @@ fn put_mem(
 fn chain_input(alloc: Global, before: Option<Digest>, k: u8) -> Result<Bytes, OutOfMemory>
     ensures { IfOk result (λ input. input ≡ chain_input before k) }
 {
-    let mut input = Sequence::new(alloc);
+    let mut input = Bytes::new(alloc);
     input.push(CHAIN)?;
     if let Some(digest) = before {
         input.append(&digest)?;
@@ -135,7 +135,7 @@ fn chain_input(alloc: Global, before: Option<Digest>, k: u8) -> Result<Bytes, Ou
 fn value_input(alloc: Global, value: &[u8]) -> Result<Bytes, OutOfMemory>
     ensures { IfOk result (λ input. input ≡ value_input value.now) }
 {
-    let mut input = Sequence::new(alloc);
+    let mut input = Bytes::new(alloc);
     input.push(VALUE)?;
     input.append(value)?;
     Ok(input)

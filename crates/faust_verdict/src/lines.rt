@@ -3,14 +3,14 @@ ghost use Rattle.std.specs.Prelude.{◌≡◌, IfOk};
 ghost use Rattle.faust_verdict.specs.Texts.{collision_text, forged_text, usage_text};
 
 use faust_text::{put_hex, put_number};
-use faust_types::{Bytes, OutOfMemory, Sequence};
+use faust_types::{Bytes, OutOfMemory};
 use std::alloc::Global;
 
 /// The line of a forged tag: the entry that showed it, and the body that it is over.
 pub fn forged_line(alloc: Global, entry: u64, body: &[u8]) -> Result<Bytes, OutOfMemory>
     ensures { IfOk result (λ text. text ≡ forged_text entry body.now) }
 {
-    let mut text = Sequence::from_slice(alloc, b"forged: entry ")?;
+    let mut text = Bytes::from_slice(alloc, b"forged: entry ")?;
     put_number(&mut text, entry)?;
     text.append(b" body ")?;
     put_hex(&mut text, body)?;
@@ -22,7 +22,7 @@ pub fn forged_line(alloc: Global, entry: u64, body: &[u8]) -> Result<Bytes, OutO
 pub fn collision_line(alloc: Global, first: &[u8], second: &[u8]) -> Result<Bytes, OutOfMemory>
     ensures { IfOk result (λ text. text ≡ collision_text first.now second.now) }
 {
-    let mut text = Sequence::from_slice(alloc, b"collision: ")?;
+    let mut text = Bytes::from_slice(alloc, b"collision: ")?;
     put_hex(&mut text, first)?;
     text.push(b' ')?;
     put_hex(&mut text, second)?;

@@ -120,7 +120,7 @@ pub(crate) fn next_value(alloc: Global, bytes: &[u8]) -> Result<(Bytes, &[u8]), 
         return Err(WireError::Malformed);
     }
     let (value, rest) = next_bytes(len, rest)?;
-    Ok((Bytes::from_slice(alloc, value)?, rest))
+    Ok((Bytes::from_slice(alloc, value)?.shared(), rest))
 }
 
 pub(crate) fn next_optional_value(

@@ -34,7 +34,7 @@ pub(crate) fn joined(alloc: Global, parts: &[&[u8]]) -> Result<Bytes, OutOfMemor
 
 /// The message of these parts with another first byte.
 pub(crate) fn begun_with(alloc: Global, first: u8, parts: &[&[u8]]) -> Result<Bytes, Fail> {
-    let mut bytes = joined(alloc, parts)?.into_vec();
+    let mut bytes = joined(alloc, parts)?.into_vec()?;
     *bytes.get_mut(0).ok_or("a first byte")? = first;
     Ok(Bytes::from_vec(bytes))
 }

@@ -49,7 +49,7 @@ fn encode_submit(alloc: Global, wire: u8, n: u8, submit: &Submit) -> Result<Byte
     out.append(&submit.data_tag)?;
     put_written(&submit.value, &mut out)?;
     put_riding(wire, &submit.commit, &mut out)?;
-    Ok(out)
+    Ok(out.shared())
 }
 
 #[tactic(auto, unfolding(crate::specs::Grammar::reply_bytes))]
@@ -64,7 +64,7 @@ fn encode_reply(alloc: Global, wire: u8, n: u8, reply: &Reply) -> Result<Bytes, 
     put_pending(reply.pending.as_slice(), &mut out)?;
     put_proofs(reply.proofs.as_slice(), &mut out)?;
     put_read_part(&reply.read, &mut out)?;
-    Ok(out)
+    Ok(out.shared())
 }
 
 /// The spelling under this wire, 1 or 2, of a COMMIT with this version, which isn't the initial one, and these
@@ -97,7 +97,7 @@ fn encode_parts(
     out.reserve(room_for_commit(version.clients()))?;
     out.append(&[wire, COMMIT])?;
     put_commit(version, commit_tag, proof_tag, &mut out)?;
-    Ok(out)
+    Ok(out.shared())
 }
 
 #[tactic(auto, unfolding(crate::specs::Grammar::peer_bytes))]
@@ -109,7 +109,7 @@ fn encode_peer(alloc: Global, wire: u8, n: u8, message: &PeerMessage) -> Result<
     out.reserve(room_for_peer(n, message))?;
     message.put_front(wire, &mut out)?;
     out.append(&message.tag)?;
-    Ok(out)
+    Ok(out.shared())
 }
 
 fn encode_hello(alloc: Global, wire: u8, client: u8) -> Result<Bytes, OutOfMemory>

@@ -105,7 +105,7 @@ const EVERY_LINE: [(&[u8], &str); 44] = [
 
 #[test]
 fn every_event_and_edit(rt: HostRuntime) -> Result<(), Fail> {
-    let mut text: Bytes = Sequence::from_slice(
+    let mut text: Bytes = Bytes::from_slice(
         rt.alloc(),
         b"faust 1\nclients 32\nkey 000102ff\ndelta 1099511627775\ndummy 1000000\n",
     )?;

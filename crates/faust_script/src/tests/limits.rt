@@ -2,7 +2,7 @@ use super::HEAD;
 use crate::error::ScriptError;
 use crate::parser::parse;
 use faust_text::Cause;
-use faust_types::{Bytes, OutOfMemory, Sequence};
+use faust_types::{Bytes, OutOfMemory};
 use std::alloc::Global;
 
 /// A script with a piece that stands in it so many times.
@@ -17,7 +17,7 @@ struct Repeated {
 
 impl Repeated {
     fn text(&self, alloc: Global) -> Result<Bytes, OutOfMemory> {
-        let mut text = Sequence::from_slice(alloc, self.head)?;
+        let mut text = Bytes::from_slice(alloc, self.head)?;
         text.append(self.front)?;
         for _ in 0..self.count {
             text.append(self.piece)?;

@@ -19,7 +19,7 @@ fn is_malformed_with(
 ) -> Result<bool, Fail>
     requires { IsWire wire }
 {
-    let mut bytes = joined(alloc, parts)?.into_vec();
+    let mut bytes = joined(alloc, parts)?.into_vec()?;
     *bytes.get_mut(place).ok_or("a place in the message")? = byte;
     Ok(is_malformed(alloc, wire, 2, &bytes))
 }
