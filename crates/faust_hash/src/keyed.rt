@@ -1,10 +1,16 @@
-ghost use Rattle.std.specs.Prelude.{◌≡◌, ◌≤◌, length};
+ghost use Rattle.std.specs.Prelude.{◌≡◌, ◌≤◌, length, IfSome};
+ghost use Rattle.std.specs.Arc.{arc_value};
 ghost use Rattle.sha2.specs.Hashers.{Holds256};
+ghost use Rattle.faust_hash.specs.Chain.{value_digest_of};
 ghost use Rattle.faust_hash.specs.Hmac.{block_key as block_key_of, hmac_of, masked as masked_by, padded as padded_bytes};
 
+use crate::book::Book;
+use crate::digests::value_digest;
 use crate::ghost_bytes::GhostBytes;
 use sha2::{Digest, Sha256};
+use std::alloc::Global;
 use std::marker::Model;
+use std::sync::Arc;
 
 // How many bytes SHA-256 takes in at a time.
 const BLOCK: usize = 64;
@@ -17,10 +23,15 @@ const OUTER_PAD: u8 = 0x5c;
 
 /// A key made ready for many tags, as section 4 of RFC 2104 has it: both hashes have taken in their block of the
 /// key, and a tag of a short body costs two more blocks in place of four. Clauses see the key's bytes.
+///
+/// One made by `with_book` remembers tags and digests of values that it computed, and so do its copies, together.
+/// What is asked again is looked up. No answer depends on what is remembered.
 #[derive(Drop)]
 pub struct PreparedKey {
     inner: Sha256,
     outer: Sha256,
+    block: [u8; BLOCK],
+    book: Option<Book>,
     key: GhostBytes,
 }
 
@@ -32,7 +43,7 @@ impl Model for PreparedKey {
 
     ghost view = { λ prepared. prepared.key.bytes };
 
-    ghost invariant = { λ prepared. IsPrepared prepared.key.bytes prepared.inner prepared.outer };
+    ghost invariant = { λ prepared. IsPrepared prepared.key.bytes prepared.block prepared.inner prepared.outer };
 }
 
 impl PreparedKey {
@@ -40,17 +51,50 @@ impl PreparedKey {
     pub fn new(key: &[u8]) -> PreparedKey
         ensures { result ≡ key.now }
     {
+        PreparedKey::prepared(key, None)
+    }
+
+    /// The key, of any length, made ready, with a book that its copies share. Where there is no memory for the book
+    /// it has none, and computes each answer.
+    pub fn with_book(alloc: Global, key: &[u8]) -> PreparedKey
+        ensures { result ≡ key.now }
+    {
+        PreparedKey::prepared(key, Book::new(alloc).ok())
+    }
+
+    // The key made ready, with this book.
+    fn prepared(key: &[u8], book: Option<Book>) -> PreparedKey
+        ensures { result ≡ key.now }
+    {
         let block = block_key(key);
         PreparedKey {
             inner: begun(&masked(&block, INNER_PAD)),
             outer: begun(&masked(&block, OUTER_PAD)),
+            block,
+            book,
             key: GhostBytes::of(&key),
         }
     }
 
     /// The tag of `body`, of any length, under this key.
-    #[tactic(auto, unfolding(crate::specs::Hmac::hmac_of))]
+    #[tactic(auto, using(crate::proofs::Blocks::tag_is_under))]
     pub fn tag(&self, body: &[u8]) -> [u8; 32]
+        ensures { result ≡ hmac_of self.now body.now }
+    {
+        let Some(book) = &self.book else {
+            return self.computed(body);
+        };
+        if let Some(tag) = book.tag(&self.block, body) {
+            return tag;
+        }
+        let tag = self.computed(body);
+        book.put_tag(&self.block, body, tag);
+        tag
+    }
+
+    // The tag, computed.
+    #[tactic(auto, unfolding(crate::specs::Hmac::hmac_of))]
+    fn computed(&self, body: &[u8]) -> [u8; 32]
         ensures { result ≡ hmac_of self.now body.now }
     {
         let mut inner = copied(&self.inner);
@@ -60,15 +104,52 @@ impl PreparedKey {
         outer.finalize()
     }
 
-    /// The same key once more.
+    /// The digest of a value, as `value_digest` gives it, looked up where this key or a copy computed it before.
+    /// It doesn't depend on the key.
+    pub fn value_digest(&self, value: &[u8]) -> [u8; 32]
+        ensures { result ≡ value_digest_of value.now }
+    {
+        let Some(book) = &self.book else {
+            return value_digest(value);
+        };
+        if let Some(digest) = book.digest(value) {
+            return digest;
+        }
+        let digest = value_digest(value);
+        book.put_digest(value, digest);
+        digest
+    }
+
+    /// The value as it is remembered beside its digest, without a copy. `None` where there is no book or the value
+    /// isn't in it.
+    pub fn shared_value(&self, value: &[u8]) -> Option<Arc<Vec<u8>, Global>>
+        ensures { IfSome result (λ shared. (arc_value shared).items ≡ value.now) }
+    {
+        match &self.book {
+            Some(book) => book.value(value),
+            None => None,
+        }
+    }
+
+    /// The same key once more. It shares what the first remembers.
     pub fn copy(&self) -> PreparedKey
         ensures { result ≡ self.now }
     {
         PreparedKey {
             inner: copied(&self.inner),
             outer: copied(&self.outer),
+            block: self.block,
+            book: shared(&self.book),
             key: GhostBytes::of(&self.key),
         }
+    }
+}
+
+// The same book once more, where there is one.
+fn shared(book: &Option<Book>) -> Option<Book> {
+    match book {
+        Some(book) => book.shared(),
+        None => None,
     }
 }
 

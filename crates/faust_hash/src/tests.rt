@@ -1,3 +1,4 @@
+use crate::places::tag_place;
 use crate::{PreparedKey, chain, hmac, input_digest, same, value_digest};
 
 // The test cases of RFC 4231 in their order, the fifth of which tells the first 16 bytes alone. Then keys of no
@@ -124,4 +125,98 @@ fn tags_that_differ_at_either_end(rt: HostRuntime) {
     assert!(rt; same(&tag, &[0x5a; 32]));
     assert!(rt; !same(&tag, &at_first));
     assert!(rt; !same(&at_last, &tag));
+}
+
+// Whether a key with a book gives the tag of one without, when it is asked first and when it is asked again.
+fn agrees(book: &PreparedKey, plain: &PreparedKey, body: &[u8]) -> bool {
+    let tag = plain.tag(body);
+    book.tag(body) == tag && book.tag(body) == tag
+}
+
+// More bodies than there are places, under two keys, one of which is asked through a copy too.
+#[test]
+fn tags_with_a_book_are_those_without(rt: HostRuntime) {
+    let (one, other) = (PreparedKey::new(b"one"), PreparedKey::new(b"other"));
+    let one_book = PreparedKey::with_book(rt.alloc(), b"one");
+    let copy = one_book.copy();
+    let other_book = PreparedKey::with_book(rt.alloc(), b"other");
+    for i in 0..6000u64 {
+        let body = i.to_le_bytes();
+        assert!(rt; agrees(&one_book, &one, &body));
+        assert!(rt; agrees(&other_book, &other, &body));
+        assert!(rt; agrees(&copy, &one, &body));
+    }
+}
+
+#[test]
+fn tags_with_a_book_of_each_length(rt: HostRuntime) {
+    let plain = PreparedKey::new(b"key");
+    let book = PreparedKey::with_book(rt.alloc(), b"key");
+    let body = [0x5a; 200];
+    for n in 0..201usize {
+        assert!(rt; agrees(&book, &plain, &body[..n]));
+    }
+}
+
+// The bodies below 100,000 that have the place of the first of them: each takes that place from the one before,
+// and the first takes it back.
+#[test]
+fn bodies_that_fall_on_one_place(rt: HostRuntime) {
+    let plain = PreparedKey::new(b"key");
+    let book = PreparedKey::with_book(rt.alloc(), b"key");
+    let first = 0u64.to_le_bytes();
+    let mut met = 0u32;
+    for i in 1..100_000u64 {
+        let body = i.to_le_bytes();
+        if tag_place(&body) == tag_place(&first) {
+            met = met.saturating_add(1);
+            assert!(rt; agrees(&book, &plain, &first));
+            assert!(rt; agrees(&book, &plain, &body));
+        }
+    }
+    assert!(rt; met > 1);
+    assert!(rt; agrees(&book, &plain, &first));
+}
+
+// Values of one length that agree in their first and last 64 bytes fall on one place.
+#[test]
+fn digests_with_a_book_are_those_without(rt: HostRuntime) {
+    let book = PreparedKey::with_book(rt.alloc(), b"key");
+    let copy = book.copy();
+    let mut other = [7; 4096];
+    other[2048] = 8;
+    let values: [&[u8]; 4] = [b"", b"abc", &[7; 4096], &other];
+    for value in values {
+        assert!(rt; book.shared_value(value).is_none());
+        assert_eq!(rt; copy.value_digest(value), value_digest(value));
+        assert_eq!(rt; book.value_digest(value), value_digest(value));
+        match book.shared_value(value) {
+            Some(shared) => assert_eq!(rt; shared.as_slice(), value),
+            None => assert!(rt; false),
+        }
+    }
+    assert!(rt; copy.shared_value(&[7; 4096]).is_none());
+}
+
+#[test]
+fn keys_share_with_their_copies_alone(rt: HostRuntime) {
+    let one = PreparedKey::with_book(rt.alloc(), b"key");
+    let other = PreparedKey::with_book(rt.alloc(), b"key");
+    let plain = PreparedKey::new(b"key");
+    assert_eq!(rt; one.copy().value_digest(b"abc"), value_digest(b"abc"));
+    assert_eq!(rt; plain.value_digest(b"abc"), value_digest(b"abc"));
+    assert!(rt; one.shared_value(b"abc").is_some());
+    assert!(rt; other.shared_value(b"abc").is_none());
+    assert!(rt; plain.shared_value(b"abc").is_none());
+    assert!(rt; plain.copy().shared_value(b"abc").is_none());
+}
+
+fn is_for_threads<T: Send + Sync>(value: &T) -> bool {
+    let _ = value;
+    true
+}
+
+#[test]
+fn a_key_with_a_book_goes_to_threads(rt: HostRuntime) {
+    assert!(rt; is_for_threads(&PreparedKey::with_book(rt.alloc(), b"key")));
 }

@@ -1,4 +1,4 @@
-use Rattle.faust_hash.proofs.keyed.PreparedKey.new.Given as goal
+use Rattle.faust_hash.proofs.keyed.PreparedKey.prepared.Given as goal
 
 -- the key that was passed
 abbrev pub ghost-of : goal.ghost-of
