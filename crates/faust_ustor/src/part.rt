@@ -37,7 +37,7 @@ pub fn answered(
             check_part(alloc, key, version, &next, part)?;
             Ok(Judged {
                 next,
-                value: copy_of_value(&part.mem)?,
+                value: copy_of_value(key, &part.mem)?,
                 asof: time_of(&part.mem),
                 heard: Some(part.version.copy()?),
             })
@@ -93,13 +93,23 @@ fn time_of(mem: &Option<Mem>) -> u64
     }
 }
 
-fn copy_of_value(mem: &Option<Mem>) -> Result<Option<Bytes>, OutOfMemory>
+fn copy_of_value(key: &PreparedKey, mem: &Option<Mem>) -> Result<Option<Bytes>, OutOfMemory>
     ensures { IfOk result (λ value. value ≡ value_of mem.now) }
 {
     if let Some(mem) = mem
         && let Some(value) = &mem.value
     {
-        return Ok(Some(value.copy()?));
+        return Ok(Some(copy_once(key, value)?));
     }
     Ok(None)
+}
+
+// The value once more: in the memory of the key's book, if that has it.
+fn copy_once(key: &PreparedKey, value: &Bytes) -> Result<Bytes, OutOfMemory>
+    ensures { IfOk result (λ copy. copy ≡ value.now) }
+{
+    match key.shared_value(value.as_slice()) {
+        Some(shared) => Ok(Bytes::from_shared(shared)),
+        None => value.copy(),
+    }
 }

@@ -3,7 +3,7 @@ ghost use Rattle.faust_types.specs.Clients.{IsClient};
 ghost use Rattle.faust_types.specs.Versions.{clients_of};
 ghost use Rattle.faust_ustor.specs.Checks.{is_known_right, is_proven, is_proof_of, is_next_submitted, is_mem_right, digest_of};
 
-use faust_hash::{PreparedKey, same, value_digest};
+use faust_hash::{PreparedKey, same};
 use faust_tags::{commit_tag_under, data_tag_under, proof_tag_under, submit_tag_under};
 use faust_types::{Bytes, Digest, Known, MAX_TIMESTAMP, Mem, OutOfMemory, Tag, Tuple, Version};
 use std::alloc::Global;
@@ -65,17 +65,17 @@ pub fn is_mem_right(key: &PreparedKey, j: u8, mem: &Option<Mem>) -> bool
     match mem {
         None => true,
         Some(mem) => {
-            let digest = digest_of(&mem.value);
+            let digest = digest_of(key, &mem.value);
             same(&mem.tag, &data_tag_under(key, j, mem.t, digest.as_ref()))
         }
     }
 }
 
-fn digest_of(value: &Option<Bytes>) -> Option<Digest>
+fn digest_of(key: &PreparedKey, value: &Option<Bytes>) -> Option<Digest>
     ensures { result ≡ digest_of value.now }
 {
     match value {
         None => None,
-        Some(value) => Some(value_digest(value.as_slice())),
+        Some(value) => Some(key.value_digest(value.as_slice())),
     }
 }
