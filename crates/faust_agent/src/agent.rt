@@ -9,6 +9,7 @@ ghost use Rattle.faust_agent.specs.InRange.{IsDeedFor, IsMember};
 use crate::client::Client;
 use crate::deed::{Deed, Order};
 use crate::identity::Identity;
+use faust_hash::PreparedKey;
 use faust_types::{Bytes, Config, Kind, Known, Notice, OutOfMemory, Outcome};
 use std::alloc::Global;
 use std::marker::Model;
@@ -40,6 +41,24 @@ impl Agent {
         ensures { IfOk result (λ agent. agent ≡ first_member config.now me) }
     {
         let identity = Identity::new(config, me)?;
+        let client = Client::new(alloc, config.clients, me)?;
+        Ok(Agent { identity, client })
+    }
+
+    /// The same with the run's key made ready before. Clients whose keys have one book look up what another of them
+    /// computed, which changes no answer.
+    pub fn with_key(
+        alloc: Global,
+        config: &Config,
+        me: u8,
+        key: &PreparedKey,
+    ) -> Result<Agent, OutOfMemory>
+        requires config { IsConfig config.now }
+        requires client { IsClient config.now.clients me }
+        requires prepared { key.now ≡ config.now.key }
+        ensures { IfOk result (λ agent. agent ≡ first_member config.now me) }
+    {
+        let identity = Identity::with_key(config, me, key.copy())?;
         let client = Client::new(alloc, config.clients, me)?;
         Ok(Agent { identity, client })
     }

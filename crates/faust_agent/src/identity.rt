@@ -37,8 +37,18 @@ impl Identity {
         ensures config { IfOk result (λ id. id.config ≡ config.now) }
         ensures client { IfOk result (λ id. id.me ≡ me) }
     {
+        Identity::with_key(config, me, PreparedKey::new(config.key.as_slice()))
+    }
+
+    /// The same with the run's key made ready before.
+    pub fn with_key(config: &Config, me: u8, key: PreparedKey) -> Result<Identity, OutOfMemory>
+        requires config { IsConfig config.now }
+        requires client { IsClient config.now.clients me }
+        requires prepared { key ≡ config.now.key }
+        ensures config { IfOk result (λ id. id.config ≡ config.now) }
+        ensures client { IfOk result (λ id. id.me ≡ me) }
+    {
         let config = config.copy()?;
-        let key = PreparedKey::new(config.key.as_slice());
         Ok(Identity { config, key, me })
     }
 

@@ -5,17 +5,19 @@ ghost use Rattle.faust_record.specs.Kept.{empty_outbox, first_members};
 
 use crate::outbox::Outbox;
 use faust_agent::Agent;
+use faust_hash::PreparedKey;
 use faust_types::{Config, OutOfMemory};
 use std::alloc::Global;
 
-/// The agents of all clients before any event.
+/// The agents of all clients before any event. Their keys have one book.
 pub fn first_agents(alloc: Global, config: &Config) -> Result<Vec<Agent>, OutOfMemory>
     requires { IsConfig config.now }
     ensures { IfOk result (λ agents. agents.items ≡ first_members config.now config.now.clients) }
 {
+    let key = PreparedKey::with_book(alloc, config.key.as_slice());
     let mut agents = Vec::with_capacity(alloc, usize::from(config.clients))?;
     for before in 0..config.clients {
-        agents.push(Agent::new(alloc, config, before + 1)?)?;
+        agents.push(Agent::with_key(alloc, config, before + 1, &key)?)?;
     }
     Ok(agents)
 }
