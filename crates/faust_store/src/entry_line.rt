@@ -9,6 +9,7 @@ ghost use Rattle.faust_store.specs.InRange.{IsLineFor};
 ghost use Rattle.faust_store.specs.Kept.{last_arrival, push_refused};
 ghost use Rattle.faust_store.specs.Reading.{arriving_as, is_due, is_number_of, pushed, taken};
 
+use crate::sharing::kept_once;
 use crate::word::EntryWord;
 use faust_record::{Input, PushError, PushInput, RunRecord};
 use faust_text::{Cause, Cursor, LineError, is_number, number};
@@ -205,7 +206,10 @@ pub fn taken(run: RunRecord, line: EntryLine) -> Result<RunRecord, LineError>
     ensures { Gives (λ next. next) result (taken run line) }
 {
     match line {
-        EntryLine::Comes { client, input } => pushed(run, client, input),
+        EntryLine::Comes { client, input } => {
+            let input = kept_once(&run, input);
+            pushed(run, client, input)
+        }
         EntryLine::Arrives { client, message } => arrived(run, client, message.as_slice()),
     }
 }

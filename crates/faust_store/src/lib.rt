@@ -18,6 +18,7 @@ mod feed;
 mod laws;
 mod printing;
 mod reading;
+mod sharing;
 mod stage;
 mod word;
 

@@ -11,6 +11,11 @@ use faust_text::{Title, put_head, put_hex, put_number, put_value};
 use faust_types::{Bytes, OutOfMemory};
 use std::alloc::Global;
 
+// The bytes of a head, and of a line without its value or message, at most or nearly so.
+const ROOM_FOR_HEAD: usize = 512;
+
+const ROOM_FOR_LINE: usize = 40;
+
 /// The record of a run, of version 1 or 2; version 1 is of runs of wire 1. It takes time in proportion to its length.
 pub fn print_record(alloc: Global, run: &RunRecord, version: u8) -> Result<Bytes, OutOfMemory>
     requires few { length run.now.entries ≤ 20000 }
@@ -18,6 +23,7 @@ pub fn print_record(alloc: Global, run: &RunRecord, version: u8) -> Result<Bytes
     ensures { IfOk result (λ text. text ≡ record_text run.now version) }
 {
     let mut text = Bytes::new(alloc);
+    text.reserve(room_for(run, version))?;
     put_head(&mut text, Title::Record, version, run.config())?;
     for q in 0..run.len() {
         if let Some(entry) = run.entry(q) {
@@ -26,6 +32,29 @@ pub fn print_record(alloc: Global, run: &RunRecord, version: u8) -> Result<Bytes
     }
     put_end(&mut text, run.len())?;
     Ok(text)
+}
+
+// About how many bytes the text has, so that one allocation serves it.
+fn room_for(run: &RunRecord, version: u8) -> usize {
+    let mut room = ROOM_FOR_HEAD;
+    for q in 0..run.len() {
+        if let Some(entry) = run.entry(q) {
+            room = room.saturating_add(room_for_line(version, &entry.input));
+        }
+    }
+    room
+}
+
+fn room_for_line(version: u8, input: &Input) -> usize {
+    match input {
+        Input::Write(bytes) | Input::Reply(bytes) | Input::Peer(bytes) => room_for_bytes(bytes),
+        Input::Arrive(message) if version != 1 => room_for_bytes(message),
+        Input::Read(_) | Input::Tick(_) | Input::Arrive(_) => ROOM_FOR_LINE,
+    }
+}
+
+fn room_for_bytes(bytes: &Bytes) -> usize {
+    bytes.len().saturating_mul(2).saturating_add(ROOM_FOR_LINE)
 }
 
 #[tactic(auto, using(crate::proofs::PrintedText::line_is))]
