@@ -1,10 +1,9 @@
 -- The table of inputs with one more input.
 use Rattle.std.proofs.Common.{◌≡◌, ℕ, Bool, true, false, not, nat_eq, cond, List, [], ◌∷◌, ◌++◌, Option, Some, None, is_some, refl, sym, ap, ◌∙◌, subst}
 use Rattle.std.proofs.lemmas.Bool.{false_from_ne_true, false≢true, true≢false}
-use Rattle.std.proofs.lemmas.Map.Text.{is_eq-slice_cmp}
-use Rattle.std.specs.BTreeMap as tree
-use Rattle.std.specs.Cmp.Lexicographic.{other_text, pointwise, same_text, slice_cmp}
-use Rattle.std.specs.Ordering.{is_eq, nat_cmp}
+use Rattle.std.specs.HashMap as hashed
+use Rattle.std.specs.Cmp.Lexicographic.{other_text, pointwise, same_text}
+use Rattle.std.specs.Str.{bytes_eq}
 use Rattle.faust_hash.proofs.Lists.{is_same_tells}
 use Rattle.faust_hash.specs.Chain.{input_digest}
 use Rattle.faust_hash.specs.Tag.{is_same}
@@ -37,9 +36,9 @@ none-so-far table all none holds = sym holds.found_is ∙ ap collision_in none
 
 -- a digest that is new
 pub inputs-new : (table now : InputTable) (all : List (List ℕ)) (input : List ℕ) → table.found ≡ None → now.found ≡ None
-    → tree.get (slice_cmp nat_cmp) table.firsts (input_digest input) ≡ None
-    → ((q : List ℕ) → tree.get (slice_cmp nat_cmp) now.firsts q
-    ≡ cond (is_eq (slice_cmp nat_cmp (input_digest input) q)) (Some input) (tree.get (slice_cmp nat_cmp) table.firsts q))
+    → hashed.get bytes_eq table.firsts (input_digest input) ≡ None
+    → ((q : List ℕ) → hashed.get bytes_eq now.firsts q
+    ≡ cond (bytes_eq (input_digest input) q) (Some input) (hashed.get bytes_eq table.firsts q))
     → HoldsInputs table all → HoldsInputs now (all ++ input ∷ [])
 inputs-new table now all input none still absent updated holds =
     let nothing : first_of_digest all (input_digest input) ≡ None = sym (holds.firsts_are none (input_digest input)) ∙ absent in
@@ -50,14 +49,13 @@ inputs-new table now all input none still absent updated holds =
           ∙ ap (λ (here : Option (List ℕ)). collision_or here input None) no_partner);
       firsts_are = λ again digest.
           updated digest
-          ∙ ap (λ (b : Bool). cond b (Some input) (tree.get (slice_cmp nat_cmp) table.firsts digest)) (is_eq-slice_cmp (input_digest input) digest)
           ∙ ap (λ (o : Option (List ℕ)). cond (is_same (input_digest input) digest) (Some input) o) (holds.firsts_are none digest)
           ∙ sym (first-new all input digest nothing);
     }
 
 -- an input that was there
 pub inputs-again : (table : InputTable) (all : List (List ℕ)) (input : List ℕ) → table.found ≡ None
-    → tree.get (slice_cmp nat_cmp) table.firsts (input_digest input) ≡ Some input → HoldsInputs table all
+    → hashed.get bytes_eq table.firsts (input_digest input) ≡ Some input → HoldsInputs table all
     → HoldsInputs table (all ++ input ∷ [])
 inputs-again table all input none there holds =
     let first : first_of_digest all (input_digest input) ≡ Some input = sym (holds.firsts_are none (input_digest input)) ∙ there in
@@ -71,7 +69,7 @@ inputs-again table all input none there holds =
 
 -- an input that collides with an earlier one
 pub inputs-collide : (table now : InputTable) (all : List (List ℕ)) (input f : List ℕ) → table.found ≡ None
-    → tree.get (slice_cmp nat_cmp) table.firsts (input_digest input) ≡ Some f → (f ≡ input → ⊥)
+    → hashed.get bytes_eq table.firsts (input_digest input) ≡ Some f → (f ≡ input → ⊥)
     → now.found ≡ Some (record { first = f; second = input }) → HoldsInputs table all → HoldsInputs now (all ++ input ∷ [])
 inputs-collide table now all input f none there differ found holds =
     let first : first_of_digest all (input_digest input) ≡ Some f = sym (holds.firsts_are none (input_digest input)) ∙ there in
@@ -99,33 +97,33 @@ stay table all input found holds = by table.found refl
 
 pub new-as : (table now : InputTable) (all : List (List ℕ)) (input digest key value : List ℕ) → digest ≡ input_digest input
     → key ≡ input_digest input → value ≡ input → is_some table.found ≡ false → now.found ≡ table.found
-    → tree.get (slice_cmp nat_cmp) table.firsts digest ≡ None
-    → ((q : List ℕ) → tree.get (slice_cmp nat_cmp) now.firsts q
-    ≡ cond (is_eq (slice_cmp nat_cmp key q)) (Some value) (tree.get (slice_cmp nat_cmp) table.firsts q))
+    → hashed.get bytes_eq table.firsts digest ≡ None
+    → ((q : List ℕ) → hashed.get bytes_eq now.firsts q
+    ≡ cond (bytes_eq key q) (Some value) (hashed.get bytes_eq table.firsts q))
     → HoldsInputs table all → HoldsInputs now (all ++ input ∷ [])
 new-as table now all input digest key value digest_is key_is value_is none still absent updated holds =
     let no_found = is-none table.found none in
-    inputs-new table now all input no_found (still ∙ no_found) (ap (tree.get (slice_cmp nat_cmp) table.firsts) (sym digest_is) ∙ absent)
+    inputs-new table now all input no_found (still ∙ no_found) (ap (hashed.get bytes_eq table.firsts) (sym digest_is) ∙ absent)
     (λ q. updated q
-    ∙ ap (λ (k : List ℕ). cond (is_eq (slice_cmp nat_cmp k q)) (Some value) (tree.get (slice_cmp nat_cmp) table.firsts q)) key_is
-    ∙ ap (λ (v : List ℕ). cond (is_eq (slice_cmp nat_cmp (input_digest input) q)) (Some v)
-    (tree.get (slice_cmp nat_cmp) table.firsts q)) value_is)
+    ∙ ap (λ (k : List ℕ). cond (bytes_eq k q) (Some value) (hashed.get bytes_eq table.firsts q)) key_is
+    ∙ ap (λ (v : List ℕ). cond (bytes_eq (input_digest input) q) (Some v)
+    (hashed.get bytes_eq table.firsts q)) value_is)
     holds
 
 pub again-as : (table : InputTable) (all : List (List ℕ)) (input digest first : List ℕ) → digest ≡ input_digest input
-    → is_some table.found ≡ false → tree.get (slice_cmp nat_cmp) table.firsts digest ≡ Some first → first ≡ input
+    → is_some table.found ≡ false → hashed.get bytes_eq table.firsts digest ≡ Some first → first ≡ input
     → HoldsInputs table all → HoldsInputs table (all ++ input ∷ [])
 again-as table all input digest first digest_is none there same holds =
     inputs-again table all input (is-none table.found none)
-    (ap (tree.get (slice_cmp nat_cmp) table.firsts) (sym digest_is) ∙ there ∙ ap (λ (l : List ℕ). Some l) same) holds
+    (ap (hashed.get bytes_eq table.firsts) (sym digest_is) ∙ there ∙ ap (λ (l : List ℕ). Some l) same) holds
 
 pub collide-as : (table now : InputTable) (all : List (List ℕ)) (input digest first second : List ℕ) → digest ≡ input_digest input
-    → is_some table.found ≡ false → tree.get (slice_cmp nat_cmp) table.firsts digest ≡ Some first → (first ≡ input → ⊥)
+    → is_some table.found ≡ false → hashed.get bytes_eq table.firsts digest ≡ Some first → (first ≡ input → ⊥)
     → second ≡ input → now.found ≡ Some (record { first = first; second = second }) → HoldsInputs table all
     → HoldsInputs now (all ++ input ∷ [])
 collide-as table now all input digest first second digest_is none there differ second_is found holds =
     inputs-collide table now all input first (is-none table.found none)
-    (ap (tree.get (slice_cmp nat_cmp) table.firsts) (sym digest_is) ∙ there) differ
+    (ap (hashed.get bytes_eq table.firsts) (sym digest_is) ∙ there) differ
     (found ∙ ap (λ (l : List ℕ). Some (record { first = first; second = l })) second_is) holds
 
 -- what a comparison of two byte lists tells

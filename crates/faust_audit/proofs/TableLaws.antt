@@ -2,14 +2,6 @@
 use Rattle.std.proofs.Common.{◌≡◌, ◌≢◌, ◌&&◌, ◌||◌, ◌⊎◌, ℕ, Bool, true, false, not, cond, List, [], ◌∷◌, ◌++◌, Option, Some, None, refl, sym, ap, ◌∙◌, subst, inl, inr, append_assoc}
 use Rattle.std.proofs.lemmas.List.{append-nil}
 use Rattle.std.proofs.lemmas.Bool.{cases_Bool, cond-true, cond-false, false≢true, true≢false}
-use Rattle.std.proofs.lemmas.Map.Text.{is_eq-slice_cmp}
-use Rattle.std.proofs.lemmas.Map.Lookups.{exact_bytes}
-use Rattle.std.specs.List.{list_any}
-use Rattle.std.specs.Cmp.Lexicographic.{slice_cmp}
-use Rattle.std.specs.Ordering.{is_eq, match_ordering, nat_cmp}
-use Rattle.std.specs.declared.cmp.Ordering.{Ordering}
-use Rattle.std.specs.declared.cmp.Ordering.TheVariants.{Less, Equal, Greater}
-use Rattle.std.specs.BTreeSet.{insert_key}
 use Rattle.faust_hash.proofs.Lists.{is_same_tells}
 use Rattle.faust_hash.specs.Chain.{input_digest}
 use Rattle.faust_hash.specs.Tag.{is_same}
@@ -21,63 +13,20 @@ use Rattle.faust_audit.specs.Tables.{first_of_digest}
 
 -- ---- bodies
 
-or-swap : (k x r : Bool) → k || (x || r) ≡ (x || r) || k
-or-swap true true r = refl
-or-swap true false true = refl
-or-swap true false false = refl
-or-swap false true r = refl
-or-swap false false true = refl
-or-swap false false false = refl
-
 or-false : (b : Bool) → b || false ≡ b
 or-false true = refl
 or-false false = refl
-
-or-again : (x r k : Bool) → (k ≡ true → x ≡ true) → x || r ≡ (x || r) || k
-or-again true r k same = refl
-or-again false r false same = sym (or-false r)
-or-again false r true same = absurd (false≢true (same refl))
 
 or-later : (x r k : Bool) → x || (r || k) ≡ (x || r) || k
 or-later true r k = refl
 or-later false r k = refl
 
-same-swap : (x y : List ℕ) → is_same x y ≡ is_same y x
-same-swap x y = elim (cases_Bool (is_same x y)) as (λ _. is_same x y ≡ is_same y x) [
-  | inl is_so ↦ is_so ∙ sym ((is_same_tells y x).1 (sym ((is_same_tells x y).0 is_so)))
-  | inr is_not ↦ elim (cases_Bool (is_same y x)) as (λ _. is_same x y ≡ is_same y x) [
-    | inl other ↦ absurd (true≢false (sym ((is_same_tells x y).1 (sym ((is_same_tells y x).0 other))) ∙ is_not))
-    | inr neither ↦ is_not ∙ sym neither
-  ]
-]
-
--- whether a query is at a key, by its bytes
-at-key : (q k : List ℕ) → is_eq (slice_cmp nat_cmp q k) ≡ is_same k q
-at-key q k = is_eq-slice_cmp q k ∙ same-swap q k
-
-module _ {K : Type 0} (items : K → List ℕ) where
-  abbrev pub any_at : List ℕ → List K → Bool
-  any_at q ks = list_any (λ k. is_eq (slice_cmp nat_cmp q (items k))) ks
-
-  abbrev pub inserted : List K → K → List K
-  inserted ks key = insert_key (λ x y. slice_cmp nat_cmp (items x) (items y)) ks key
-
-  pub insert-any : (q : List ℕ) (ks : List K) (key : K) → any_at q (inserted ks key) ≡ any_at q ks || is_same (items key) q
-  insert-any q [] key = or-false _ ∙ at-key q (items key)
-  insert-any q (x ∷ xs) key = by (slice_cmp nat_cmp (items key) (items x)) refl (insert-any q xs key)
-    where
-      by : (r : Ordering) → slice_cmp nat_cmp (items key) (items x) ≡ r
-          → any_at q (inserted xs key) ≡ any_at q xs || is_same (items key) q
-          → any_at q (match_ordering r (key ∷ x ∷ xs) (x ∷ xs) (x ∷ inserted xs key)) ≡ any_at q (x ∷ xs) || is_same (items key) q
-      by Less e more =
-          ap (λ (b : Bool). b || any_at q (x ∷ xs)) (at-key q (items key))
-          ∙ or-swap (is_same (items key) q) (is_eq (slice_cmp nat_cmp q (items x))) (any_at q xs)
-      by Equal e more =
-          or-again (is_eq (slice_cmp nat_cmp q (items x))) (any_at q xs) (is_same (items key) q)
-          (λ same. at-key q (items x) ∙ ap (λ (l : List ℕ). is_same l q) (sym (exact_bytes (items key) (items x) e)) ∙ same)
-      by Greater e more =
-          ap (λ (b : Bool). is_eq (slice_cmp nat_cmp q (items x)) || b) more
-          ∙ or-later (is_eq (slice_cmp nat_cmp q (items x))) (any_at q xs) (is_same (items key) q)
+-- a test with one more key
+pub with-one-more : (here there : Bool) → cond here true there ≡ there || here
+with-one-more true true = refl
+with-one-more true false = refl
+with-one-more false true = refl
+with-one-more false false = refl
 
 pub among-one-more : (made : List (List ℕ)) (body q : List ℕ) → is_among (made ++ body ∷ []) q ≡ is_among made q || is_same body q
 among-one-more [] body q = or-false (is_same body q)

@@ -1,9 +1,8 @@
--- What the ordered tables of a pass hold, as lists. It helps proofs.
+-- What the tables of a pass hold, as lists. It helps proofs.
 use Rattle.std.specs.Prelude.{◌≡◌, ℕ, Bool, cond, List, [], ◌∷◌, Option, None, Some}
-use Rattle.std.specs.BTreeMap as tree
-use Rattle.std.specs.BTreeSet as sorted
-use Rattle.std.specs.Cmp.Lexicographic.{slice_cmp}
-use Rattle.std.specs.Ordering.{nat_cmp}
+use Rattle.std.specs.HashMap as hashed
+use Rattle.std.specs.HashSet as set_of
+use Rattle.std.specs.Str.{bytes_eq}
 use Rattle.faust_hash.specs.Chain.{input_digest}
 use Rattle.faust_hash.specs.Tag.{is_same}
 use Rattle.faust_premises.specs.Premises.{Collision, first_collision_behind, is_among}
@@ -13,7 +12,7 @@ use Rattle.faust_audit.specs.declared.input_table.Colliding.{Colliding}
 
 -- The set has the body.
 abbrev pub has_body : BodySet → List ℕ → Bool
-has_body set body = sorted.contains_by (λ k. slice_cmp nat_cmp body k.items) set.bodies
+has_body set body = set_of.contains_by (λ k. bytes_eq body k.items) set.bodies
 
 -- The set has exactly these bodies.
 abbrev pub HoldsBodies : BodySet → List (List ℕ) → Type 0
@@ -32,4 +31,4 @@ collision_in (Some found) = Some (record { first = found.first; second = found.s
 pub record HoldsInputs (table : InputTable) (all : List (List ℕ)) : Type 0 where
   pub found_is : collision_in table.found ≡ first_collision_behind [] all
   pub firsts_are : table.found ≡ None → (digest : List ℕ)
-      → tree.get (slice_cmp nat_cmp) table.firsts digest ≡ first_of_digest all digest
+      → hashed.get bytes_eq table.firsts digest ≡ first_of_digest all digest

@@ -1,16 +1,16 @@
-//! The bodies that were made, in an ordered set.
+//! The bodies that were made, in a set.
 ghost use Rattle.std.specs.Prelude.{◌≡◌, ◌++◌, ◌∷◌, [], ℕ, List, OnOk};
 ghost use Rattle.faust_premises.specs.Premises.{is_among};
 
 use crate::answers::Bodies;
 use faust_types::{Bytes, OutOfMemory};
 use std::alloc::Global;
-use std::collections::BTreeSet;
+use std::collections::HashSet;
 
 /// Bodies that are looked up.
 #[derive(Drop)]
 pub struct BodySet {
-    bodies: BTreeSet<Vec<u8>>,
+    bodies: HashSet<Vec<u8>>,
 }
 
 impl BodySet {
@@ -21,7 +21,7 @@ impl BodySet {
         ensures { HoldsBodies result [] }
     {
         BodySet {
-            bodies: BTreeSet::new(alloc),
+            bodies: HashSet::new(alloc),
         }
     }
 

@@ -1,10 +1,10 @@
-//! The inputs that were hashed, in an ordered map by their digests.
+//! The inputs that were hashed, in a map by their digests.
 ghost use Rattle.std.specs.Prelude.{◌≡◌, ◌++◌, ◌∷◌, [], ℕ, List, OnOk};
 
 use crate::hashed_input::Hashed;
 use faust_types::{Bytes, Digest, OutOfMemory, Sequence};
 use std::alloc::Global;
-use std::collections::BTreeMap;
+use std::collections::HashMap;
 
 /// Two inputs of one digest, in the order in which they were hashed.
 #[derive(Debug, Drop)]
@@ -16,7 +16,7 @@ pub struct Colliding {
 /// The first input of each digest, until two collide: then these two.
 #[derive(Drop)]
 pub struct InputTable {
-    pub firsts: BTreeMap<Digest, Bytes>,
+    pub firsts: HashMap<Digest, Bytes>,
     pub found: Option<Colliding>,
 }
 
@@ -28,7 +28,7 @@ impl InputTable {
         ensures { HoldsInputs result [] }
     {
         InputTable {
-            firsts: BTreeMap::new(alloc),
+            firsts: HashMap::new(alloc),
             found: None,
         }
     }
