@@ -40,9 +40,8 @@ impl Agent {
         requires client { IsClient config.now.clients me }
         ensures { IfOk result (λ agent. agent ≡ first_member config.now me) }
     {
-        let identity = Identity::new(config, me)?;
-        let client = Client::new(alloc, config.clients, me)?;
-        Ok(Agent { identity, client })
+        let key = PreparedKey::new(config.key.as_slice());
+        Agent::with_key(alloc, config, me, &key)
     }
 
     /// The same with the run's key made ready before. Clients whose keys have one book look up what another of them
@@ -58,7 +57,7 @@ impl Agent {
         requires prepared { key.now ≡ config.now.key }
         ensures { IfOk result (λ agent. agent ≡ first_member config.now me) }
     {
-        let identity = Identity::with_key(config, me, key.copy())?;
+        let identity = Identity::new(config, me, key.copy())?;
         let client = Client::new(alloc, config.clients, me)?;
         Ok(Agent { identity, client })
     }

@@ -30,18 +30,8 @@ pub struct Identity {
 }
 
 impl Identity {
-    /// Client `me` of a run with this config. The key is made ready once.
-    pub fn new(config: &Config, me: u8) -> Result<Identity, OutOfMemory>
-        requires config { IsConfig config.now }
-        requires client { IsClient config.now.clients me }
-        ensures config { IfOk result (λ id. id.config ≡ config.now) }
-        ensures client { IfOk result (λ id. id.me ≡ me) }
-    {
-        Identity::with_key(config, me, PreparedKey::new(config.key.as_slice()))
-    }
-
-    /// The same with the run's key made ready before.
-    pub fn with_key(config: &Config, me: u8, key: PreparedKey) -> Result<Identity, OutOfMemory>
+    /// Client `me` of a run with this config, whose key was made ready once.
+    pub fn new(config: &Config, me: u8, key: PreparedKey) -> Result<Identity, OutOfMemory>
         requires config { IsConfig config.now }
         requires client { IsClient config.now.clients me }
         requires prepared { key ≡ config.now.key }

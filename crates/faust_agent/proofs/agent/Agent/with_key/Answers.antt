@@ -1,5 +1,5 @@
 use Rattle.faust_agent.proofs.Kept.{kept-first}
-use Rattle.faust_agent.proofs.agent.Agent.new.Goals as goal
+use Rattle.faust_agent.proofs.agent.Agent.with_key.Goals as goal
 
 pub invariant_of-result : goal.invariant_of-result
 invariant_of-result c =
