@@ -1,5 +1,5 @@
 -- The entries of a run one after the other.
-use Rattle.std.proofs.Common.{◌≡◌, ◌+◌, ◌-◌, ◌<◌, ◌≤◌, ℕ, zero, suc, List, [], ◌∷◌, ◌++◌, length, get_or, drop, take, Option, Some, None, IfSome, refl, sym, ap, ◌∙◌, subst, arith, slice_set}
+use Rattle.std.proofs.Common.{◌≡◌, ◌+◌, ◌-◌, ◌<◌, ℕ, zero, suc, List, [], ◌∷◌, ◌++◌, length, get_or, drop, take, Option, Some, None, IfSome, refl, sym, ap, ◌∙◌, subst, arith, slice_set}
 use Rattle.std.specs.List.{slice_get}
 use Rattle.std.proofs.lemmas.List.{drop_more, take-append-drop, take_more}
 use Rattle.faust_types.specs.Clients.{IsClient}
@@ -16,7 +16,7 @@ use Rattle.faust_record.proofs.Own.{entries_of-other, entries_of-own, replayed-a
 use Rattle.faust_record.proofs.Runs.{run-front}
 use Rattle.faust_premises.specs.Premises.{Forgery, checked_pairs, first_forged_behind, forged_among, forgery_or, hashed_in_run, pairs_of_input}
 use Rattle.faust_audit.specs.Tables.{HoldsBodies, HoldsInputs}
-use Rattle.faust_audit.specs.Watching.{IsCameFor, IsWatchedFor, bodies_seen, hashed_breaking, reply_came, seen_by, watched_after, watched_in, watched_of, watched_then}
+use Rattle.faust_audit.specs.Watching.{IsCameFor, bodies_seen, hashed_breaking, reply_came, seen_by, watched_after, watched_in, watched_of, watched_then}
 use Rattle.faust_audit.specs.Passing.{IsPassAt, forged_at}
 use Rattle.faust_audit.specs.declared.pass.Pass.{Pass}
 use Rattle.faust_audit.specs.declared.watched.Watched.{Watched}

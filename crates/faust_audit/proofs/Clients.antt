@@ -1,9 +1,9 @@
 -- What each client of a run holds is in range, and each entry is a step of its client.
-use Rattle.std.proofs.Common.{◌≡◌, ◌+◌, ℕ, suc, List, [], ◌∷◌, ◌++◌, IfSome, refl, sym, ap, ◌∙◌, subst, append_assoc}
+use Rattle.std.proofs.Common.{ℕ, List, [], ◌∷◌, ◌++◌, refl, sym, subst, append_assoc}
 use Rattle.faust_types.specs.Clients.{IsClient, IsClientCount}
 use Rattle.faust_types.specs.declared.config.Config.{Config}
-use Rattle.faust_agent.specs.State.{first_client, version_at}
-use Rattle.faust_agent.specs.InRange.{IsClientOf, IsWaitedFor}
+use Rattle.faust_agent.specs.State.{first_client}
+use Rattle.faust_agent.specs.InRange.{IsClientOf}
 use Rattle.faust_agent.specs.Tells.{IsEventFor}
 use Rattle.faust_agent.specs.declared.client.Client.{Client}
 use Rattle.faust_agent.proofs.Kept.{kept-first}

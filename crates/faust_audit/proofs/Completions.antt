@@ -1,5 +1,5 @@
 -- A reply that breaks no check: each client has a next operation, and the client's own version becomes the next one.
-use Rattle.std.proofs.Common.{◌≡◌, ◌==◌, ◌+◌, ◌^◌, ◌<◌, ◌&&◌, ℕ, Bool, true, not, List, [], ◌∷◌, length, nat_lt, Option, Some, None, IfSome, refl, sym, ap, ◌∙◌, subst, arith}
+use Rattle.std.proofs.Common.{◌≡◌, ◌==◌, ◌+◌, ◌^◌, ◌<◌, ◌&&◌, ℕ, true, not, List, [], ◌∷◌, length, Option, Some, None, refl, sym, ap, ◌∙◌, arith}
 use Rattle.std.proofs.lemmas.Bool.{and_from, and_parts, lt-ltb}
 use Rattle.faust_types.specs.Clients.{IsClient}
 use Rattle.faust_types.specs.Ranges.{IsReplyFor}
@@ -19,7 +19,6 @@ use Rattle.faust_agent.specs.Table.{moved_on, own_tag, with_read}
 use Rattle.faust_agent.specs.declared.client.Client.{Client}
 use Rattle.faust_agent.proofs.Kept.{differs, either_way, slot-other, slot-same}
 use Rattle.faust_audit.specs.Watching.{has_next, have_next, watched_of}
-use Rattle.faust_audit.specs.declared.watched.Watched.{Watched}
 
 -- each tuple's client has a next operation, and then the own one has
 tuples-room : (key : List ℕ) (me : ℕ) (proofs : List (Option (List ℕ))) (walk : Walk) (tuples : List Tuple)

@@ -1,5 +1,5 @@
 -- A pass over a run with one more entry.
-use Rattle.std.proofs.Common.{◌≡◌, ◌+◌, ◌-◌, ◌<◌, ℕ, List, [], ◌∷◌, ◌++◌, length, Option, Some, None, IfSome, slice_set, replicate, refl, sym, ap, ◌∙◌, subst, inl, inr, arith, length-set, append_assoc}
+use Rattle.std.proofs.Common.{◌≡◌, ◌-◌, ◌<◌, ℕ, List, [], ◌∷◌, ◌++◌, Option, Some, None, IfSome, slice_set, replicate, refl, sym, ap, ◌∙◌, subst, inl, inr, arith, length-set, append_assoc}
 use Rattle.std.proofs.lemmas.Bool.{cases_eq}
 use Rattle.std.proofs.lemmas.List.{get_or-replicate, length-replicate}
 use Rattle.faust_types.specs.Clients.{IsClient}
@@ -13,7 +13,7 @@ use Rattle.faust_agent.specs.State.{first_client, version_at}
 use Rattle.faust_agent.specs.InRange.{IsClientOf, IsWaitedFor}
 use Rattle.faust_agent.specs.declared.client.Client.{Client}
 use Rattle.faust_agent.proofs.Kept.{slot-sized}
-use Rattle.faust_record.specs.Entries.{IsStep, replay, replayed, state_at}
+use Rattle.faust_record.specs.Entries.{replay, state_at}
 use Rattle.faust_record.specs.Made.{made_behind, made_bodies}
 use Rattle.faust_record.specs.Runs.{IsRun, entries_of}
 use Rattle.faust_record.specs.declared.entry.Entry.{Entry}

@@ -1,5 +1,5 @@
 -- A REPLY that came is in range for as many clients as its version has.
-use Rattle.std.proofs.Common.{◌≡◌, ℕ, sym, subst}
+use Rattle.std.proofs.Common.{ℕ, sym, subst}
 use Rattle.faust_types.specs.Ranges.{IsReplyFor}
 use Rattle.faust_types.specs.declared.message.Reply.{Reply}
 use Rattle.faust_audit.specs.Watching.{IsCameFor}

@@ -1,5 +1,5 @@
 -- What is seen of an entry is what its deed makes, hashes and leaves.
-use Rattle.std.proofs.Common.{◌≡◌, ◌&&◌, ℕ, Bool, true, false, cond, List, [], ◌∷◌, ◌++◌, map, nat_le, Option, Some, None, is_none, Result, Ok, Err, IfSome, refl, sym, ap, ◌∙◌, subst}
+use Rattle.std.proofs.Common.{◌≡◌, ◌&&◌, ℕ, Bool, true, false, cond, List, [], ◌++◌, map, nat_le, Option, Some, None, is_none, Result, Ok, Err, IfSome, refl, sym, ap, ◌∙◌, subst}
 use Rattle.std.proofs.lemmas.List.{append-nil}
 use Rattle.std.proofs.lemmas.Bool.{cond-true, cond-false}
 use Rattle.faust_types.specs.Clients.{IsClient, IsClientCount}
@@ -11,21 +11,20 @@ use Rattle.faust_types.specs.declared.operation.Operation.{Operation}
 use Rattle.faust_types.specs.declared.message.Known.{Known}
 use Rattle.faust_types.specs.declared.message.Reply.{Reply}
 use Rattle.faust_types.specs.declared.outcome.Outcome.{Outcome}
-use Rattle.faust_ustor.specs.Checks.{begun, judged}
-use Rattle.faust_ustor.specs.Hashed.{all_inputs, hashed}
-use Rattle.faust_ustor.specs.Passed.{next_of, told}
+use Rattle.faust_ustor.specs.Checks.{judged}
+use Rattle.faust_ustor.specs.Hashed.{all_inputs}
+use Rattle.faust_ustor.specs.Passed.{next_of}
 use Rattle.faust_ustor.specs.declared.judgement.Judged.{Judged}
 use Rattle.faust_ustor.proofs.Counts.{next-told}
 use Rattle.faust_ustor.proofs.Inputs.{hashed_passed}
 use Rattle.faust_ustor.proofs.Passes.{judged-passed}
-use Rattle.faust_agent.specs.State.{is_idle, is_less, version_at}
-use Rattle.faust_agent.specs.Deeds.{peer_in, read_of, replied, reply_in, ticked, told as was_told, write_of}
-use Rattle.faust_agent.specs.Table.{after, answer_of, awaited, begun_by, deed_of, dummy_of, first_unfit, fitted, held_after, heard_by, is_dummy_due, moved_on, notice_of, operation_of, posts_of, raised, received, taken, timers_after, with_slot}
+use Rattle.faust_agent.specs.State.{is_less, version_at}
+use Rattle.faust_agent.specs.Deeds.{peer_in, read_of, replied, reply_in, told as was_told, write_of}
+use Rattle.faust_agent.specs.Table.{after, answer_of, awaited, begun_by, deed_of, dummy_of, first_unfit, fitted, held_after, heard_by, is_dummy_due, moved_on, notice_of, operation_of, posts_of, received, taken, with_slot}
 use Rattle.faust_agent.specs.Outcomes.{outcome_of, spelled_post}
 use Rattle.faust_agent.specs.InRange.{IsClientOf, IsDeedFor, IsHeardFor, IsWaitedFor}
 use Rattle.faust_agent.specs.Tells.{Tells}
 use Rattle.faust_agent.specs.declared.client.Client.{Client}
-use Rattle.faust_agent.specs.declared.deed.Completion.{Completion}
 use Rattle.faust_agent.specs.declared.deed.Deed.{Deed}
 use Rattle.faust_agent.specs.declared.deed.Deed.TheVariants as deeds
 use Rattle.faust_agent.proofs.Kept.{either_way, slot-other}
@@ -36,7 +35,7 @@ use Rattle.faust_record.specs.declared.entry.Input.{Input}
 use Rattle.faust_record.specs.declared.entry.Input.TheVariants as inputs
 use Rattle.faust_record.specs.declared.entry.Entry.{Entry}
 use Rattle.faust_premises.specs.Premises.{inputs_at, inputs_of_judging, inputs_of_reply}
-use Rattle.faust_audit.specs.Watching.{IsMoveFor, bodies_at, bodies_moving, bodies_seen, completion_seen, hashed_at, hashed_breaking, hashed_waiting, have_next, nothing_seen, post_body, reply_came, reply_seen, seen_at, seen_by, tick_seen, watched_after, watched_of, watched_then}
+use Rattle.faust_audit.specs.Watching.{IsMoveFor, bodies_at, bodies_moving, bodies_seen, completion_seen, hashed_at, hashed_breaking, hashed_waiting, post_body, reply_came, reply_seen, seen_at, seen_by, tick_seen, watched_after, watched_of, watched_then}
 use Rattle.faust_audit.specs.declared.watched.Move.TheVariants as moves
 use Rattle.faust_audit.specs.declared.watched.Seen.{Seen}
 use Rattle.faust_audit.proofs.Clients.{event-in_range}

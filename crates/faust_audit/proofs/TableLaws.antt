@@ -1,6 +1,10 @@
 -- One more body in the set, and one more input in the table.
-use Rattle.std.proofs.Common.{◌≡◌, ◌≢◌, ◌&&◌, ◌||◌, ◌⊎◌, ℕ, Bool, true, false, not, cond, List, [], ◌∷◌, ◌++◌, Option, Some, None, refl, sym, ap, ◌∙◌, subst, inl, inr, append_assoc}
+use Rattle.std.proofs.Common.{◌≡◌, ◌&&◌, ◌||◌, ℕ, Bool, true, false, not, cond, List, [], ◌∷◌, ◌++◌, Option, Some, None, refl, sym, ap, ◌∙◌, inl, inr, append_assoc}
 use Rattle.std.proofs.lemmas.List.{append-nil}
+use Rattle.std.proofs.lemmas.List.Sorted.{list_any-IsPermutation}
+use Rattle.std.specs.Bool.{MatchBool}
+use Rattle.std.specs.List.{list_any}
+use Rattle.std.specs.List.Sorted.{IsPermutation}
 use Rattle.std.proofs.lemmas.Bool.{cases_Bool, cond-true, cond-false, false≢true, true≢false}
 use Rattle.faust_hash.proofs.Lists.{is_same_tells}
 use Rattle.faust_hash.specs.Chain.{input_digest}
@@ -21,12 +25,47 @@ or-later : (x r k : Bool) → x || (r || k) ≡ (x || r) || k
 or-later true r k = refl
 or-later false r k = refl
 
--- a test with one more key
-pub with-one-more : (here there : Bool) → cond here true there ≡ there || here
-with-one-more true true = refl
-with-one-more true false = refl
-with-one-more false true = refl
-with-one-more false false = refl
+or-first : (a b c : Bool) → a ≡ c → a || b ≡ b || c
+or-first true true true is = refl
+or-first true false true is = refl
+or-first false true false is = refl
+or-first false false false is = refl
+or-first true b false is = absurd (true≢false is)
+or-first false b true is = absurd (false≢true is)
+
+or-there : (b c : Bool) → (c ≡ true → b ≡ true) → b ≡ b || c
+or-there true c there = refl
+or-there false false there = refl
+or-there false true there = absurd (false≢true (there refl))
+
+is-there : (b : Bool) → false ≡ not b → b ≡ true
+is-there true is = refl
+is-there false is = absurd (false≢true is)
+
+same-swap : (x y : List ℕ) → is_same x y ≡ is_same y x
+same-swap x y = elim (cases_Bool (is_same x y)) as (λ _. is_same x y ≡ is_same y x) [
+  | inl is_so ↦ is_so ∙ sym ((is_same_tells y x).1 (sym ((is_same_tells x y).0 is_so)))
+  | inr is_not ↦ elim (cases_Bool (is_same y x)) as (λ _. is_same x y ≡ is_same y x) [
+    | inl other ↦ absurd (true≢false (sym ((is_same_tells x y).1 (sym ((is_same_tells y x).0 other))) ∙ is_not))
+    | inr neither ↦ is_not ∙ sym neither
+  ]
+]
+
+module _ {K : Type 0} (items : K → List ℕ) where
+  -- whether a key has these bytes
+  abbrev pub any_at : List ℕ → List K → Bool
+  any_at q ks = list_any (λ k. is_same q (items k)) ks
+
+  -- the keys behind an insertion: the key may have been there
+  pub one-key-more : (q : List ℕ) (old new : List K) (key : K) (added : Bool) → added ≡ not (any_at (items key) old)
+      → MatchBool added (IsPermutation (key ∷ old) new) (new ≡ old) → any_at q new ≡ any_at q old || is_same (items key) q
+  one-key-more q old new key true is puts =
+      sym (list_any-IsPermutation (λ k. is_same q (items k)) (key ∷ old) new puts)
+      ∙ or-first (is_same q (items key)) (any_at q old) (is_same (items key) q) (same-swap q (items key))
+  one-key-more q old new key false is puts =
+      ap (any_at q) puts
+      ∙ or-there (any_at q old) (is_same (items key) q)
+      (λ same. ap (λ (l : List ℕ). any_at l old) (sym ((is_same_tells (items key) q).0 same)) ∙ is-there (any_at (items key) old) is)
 
 pub among-one-more : (made : List (List ℕ)) (body q : List ℕ) → is_among (made ++ body ∷ []) q ≡ is_among made q || is_same body q
 among-one-more [] body q = or-false (is_same body q)

@@ -1,12 +1,10 @@
 -- What a pass over a run that came to a forgery, or to the end, tells.
-use Rattle.std.proofs.Common.{◌≡◌, ◌+◌, ◌<◌, ◌≤◌, ℕ, List, [], ◌∷◌, ◌++◌, length, drop, take, Option, Some, None, sym, ap, ◌∙◌, subst}
+use Rattle.std.proofs.Common.{◌≡◌, ◌≤◌, ℕ, List, length, drop, take, Option, Some, None, sym, ap, ◌∙◌}
 use Rattle.std.proofs.Math.ListN.{drop_of_length-le}
 use Rattle.std.proofs.lemmas.List.{take_all}
-use Rattle.faust_types.specs.Clients.{IsClient}
 use Rattle.faust_types.specs.declared.config.Config.{Config}
-use Rattle.faust_record.specs.Runs.{IsRun, Run}
 use Rattle.faust_record.specs.declared.entry.Entry.{Entry}
-use Rattle.faust_premises.specs.Premises.{Collision, Forgery, Verdict, first_collision, first_forged, first_forged_behind, premises_of, verdict_of, verdict_on_collision}
+use Rattle.faust_premises.specs.Premises.{Forgery, first_collision, first_forged, first_forged_behind, premises_of, verdict_of, verdict_on_collision}
 use Rattle.faust_audit.specs.Tables.{collision_in}
 use Rattle.faust_audit.specs.Audited.{verdict_in}
 use Rattle.faust_audit.specs.Passing.{IsPassAt, forged_at}

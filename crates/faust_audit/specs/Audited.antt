@@ -1,5 +1,5 @@
 -- What the calls of this crate answer, in the words of the premises. Their promises rest on it.
-use Rattle.std.specs.Prelude.{ℕ, List, map}
+use Rattle.std.specs.Prelude.{ℕ, List}
 use Rattle.faust_forks.specs.Pairs as forks
 use Rattle.faust_premises.specs.Premises.{Verdict, clean, collision, forged, is_right}
 use Rattle.faust_audit.specs.declared.answers.Premises.{Premises}

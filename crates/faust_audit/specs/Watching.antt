@@ -3,7 +3,7 @@
 use Rattle.std.specs.Prelude.{◌≡◌, ◌+◌, ◌-◌, ◌^◌, ◌&&◌, ℕ, Bool, false, cond, List, [], ◌∷◌, ◌++◌, length, Option, None, Some, IfSome, drop, take, map, nat_lt, slice_index_or}
 use Rattle.faust_types.specs.Clients.{IsClient}
 use Rattle.faust_types.specs.Ranges.{IsReplyFor}
-use Rattle.faust_types.specs.Versions.{Vector, clients_of, initial, timestamp_at}
+use Rattle.faust_types.specs.Versions.{clients_of, initial, timestamp_at}
 use Rattle.faust_types.specs.declared.config.Config.{Config}
 use Rattle.faust_types.specs.declared.operation.Kind.{Kind}
 use Rattle.faust_types.specs.declared.operation.Kind.TheVariants.{Write, Read}

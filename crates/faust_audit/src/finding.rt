@@ -56,6 +56,7 @@ fn facts(alloc: Global, rec: &RunRecord) -> Result<Facts, OutOfMemory>
     ensures { IfOk result (λ facts. facts ≡ facts_of rec.now.entries) }
 {
     let mut facts = Facts::new(alloc);
+    facts.reserve(rec.len() as usize)?;
     for q in 0..rec.len() {
         let entry = entry_at(rec, q);
         if is_act(entry) {

@@ -1,6 +1,5 @@
 use Rattle.std.proofs.Common.{◌≡◌, ◌++◌, ℕ, drop}
 use Rattle.faust_types.specs.Versions.{clients_of}
-use Rattle.faust_ustor.specs.Checks.{begun}
 use Rattle.faust_ustor.specs.Hashed.{chain_inputs}
 use Rattle.faust_ustor.specs.Passed.{followed}
 use Rattle.faust_audit.specs.Watching.{have_next}

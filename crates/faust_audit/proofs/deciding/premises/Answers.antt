@@ -1,8 +1,7 @@
-use Rattle.std.proofs.Common.{◌≡◌, ◌+◌, ◌++◌, ◌∷◌, [], ℕ, List, Option, None, Some, drop, take, sym, ap, ◌∙◌, subst, arith}
+use Rattle.std.proofs.Common.{◌≡◌, ◌+◌, ◌++◌, ◌∷◌, [], ℕ, List, Option, None, Some, drop, take, sym, subst, arith}
 use Rattle.faust_types.specs.Clients.{IsClient}
 use Rattle.faust_types.specs.declared.config.Config.{Config}
 use Rattle.faust_record.specs.Runs.{IsRun}
-use Rattle.faust_record.specs.declared.entry.Entry.{Entry}
 use Rattle.faust_premises.specs.Premises.{first_forged}
 use Rattle.faust_audit.specs.Passing.{GoesOn, IsPassAt, forged_at}
 use Rattle.faust_audit.specs.Watching.{IsWatchedFor, watched_in}

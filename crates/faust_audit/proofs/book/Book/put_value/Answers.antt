@@ -7,5 +7,5 @@ use Rattle.faust_audit.proofs.book.Book.put_value.Goals as goal
 pub invariant_of-self-2 : goal.invariant_of-self-2
 invariant_of-self-2 c =
     subst AreDigests (sym c.in_ok-insert.ensures.entries)
-    (are-digests-insert c.self.inside.values.entries c.into_vec.result c.input_digest-digest.result c.self.invariant
-    (c.input_digest-digest.ensures ∙ ap input_digest (c.as_slice.ensures ∙ sym (c.into_vec.ensures ∙ c.in_ok-copy.ensures))))
+    (are-digests-insert c.self.inside.values.entries c.in_ok-into_vec.field-0 c.input_digest-digest.result c.self.invariant
+    (c.input_digest-digest.ensures ∙ ap input_digest (c.as_slice.ensures ∙ sym (c.in_ok-into_vec.ensures ∙ c.in_ok-copy.ensures))))

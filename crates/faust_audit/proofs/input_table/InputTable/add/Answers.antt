@@ -1,4 +1,4 @@
-use Rattle.std.proofs.Common.{◌≡◌, ℕ, List, Some, refl, sym, ap, ◌∙◌}
+use Rattle.std.proofs.Common.{ℕ, List, Some, refl, sym, ap, ◌∙◌}
 use Rattle.faust_audit.proofs.InputLaws.{again-as, alike, collide-as, new-as, stay, unlike}
 use Rattle.faust_audit.proofs.input_table.InputTable.add.Goals as goal
 
