@@ -1,21 +1,27 @@
 -- What the code of each call reads is what its row reads, and what it writes keeps what every state keeps.
-use Rattle.std.proofs.Common.{◌≡◌, ℕ, ◌+◌, ◌-◌, ◌<◌, ◌≤◌, Bool, true, false, if◌then◌else◌, Option, Some, None, List, [], ◌∷◌, ◌++◌, length, Result, Ok, Err, OnOk, OnErr, slice_set, slice_index_or, slice_get, nat_lt, refl, sym, ap, ◌∙◌, subst, arith}
+use Rattle.std.proofs.Common.{◌≡◌, ℕ, ◌+◌, ◌-◌, ◌<◌, ◌≤◌, Bool, true, false, if◌then◌else◌, Option, Some, None, List, [], ◌∷◌, ◌++◌, length, Result, Ok, Err, OnOk, OnErr, IfSome, option_map, slice_set, slice_index_or, slice_get, nat_lt, refl, sym, ap, ◌∙◌, subst, arith}
 use Rattle.std.proofs.lemmas.Bool.{cond-true, lt-ltb}
 use Rattle.std.proofs.lemmas.List.{get_or_default, length-set}
-use Rattle.std.proofs.lemmas.Option.{slice_get_within}
+use Rattle.std.proofs.lemmas.Option.{none-some, same_Some, slice_get_within}
 use Rattle.faust_types.specs.Clients.{IsClientCount, IsClient}
+use Rattle.faust_types.specs.Ranges.{IsWire}
 use Rattle.faust_types.specs.declared.message.Reply.{Reply}
 use Rattle.faust_types.specs.declared.message.Message.{Message}
-use Rattle.faust_wire.specs.Grammar.{IsSpellingOf}
-use Rattle.faust_wire.proofs.Messages.{same_message}
+use Rattle.faust_wire.specs.Grammar.{spelling}
+use Rattle.faust_wire.specs.Reading.{message_of}
+use Rattle.faust_wire.proofs.Messages.{message_only}
 use Rattle.faust_server.specs.Rows.{State, client_count, first_state}
 use Rattle.faust_server.specs.States.{IsStateFor, IsState}
 use Rattle.faust_server.proofs.Kept.{IsState-for}
 use Rattle.faust_liar.specs.Branches.{Handled, handled}
 use Rattle.faust_liar.specs.InRange.{IsArrival, IsForServer, IsAnswer, IsReplyIfAny, IsSessionFor, IsLiarStateFor, IsLiarState}
-use Rattle.faust_liar.specs.Lies.{LiarState, first_session, session_at, with_session, with_branch, session_count, branch_at, is_branch, one_taken, received, nth, next_of, echoed, echoed_message}
+use Rattle.faust_liar.specs.Lies.{LiarState, first_session, session_at, with_session, with_branch, session_count, branch_at, is_branch, one_taken, received, nth, next_of, echoed, echoed_message, again_due, handed_again, Hands}
+use Rattle.faust_liar.specs.Sessions.{Repeats}
+use Rattle.faust_liar.specs.Spelled.{IsSpelled}
 use Rattle.faust_liar.specs.declared.error.LiarError.{LiarError}
+use Rattle.faust_liar.specs.declared.error.LiarError.TheVariants as errors
 use Rattle.faust_liar.specs.declared.session.Session.{Session}
+use Rattle.faust_liar.proofs.Spelled.{spelled-by}
 use Rattle.faust_liar.proofs.Kept.{handled-state, handled-reply, received-in_range, kept-session, kept-branch, kept-branched, IsLiarState-for, branch-in_range, got-in_range, nth-in_range}
 
 -- a branch that is read
@@ -60,13 +66,27 @@ with_at st route branch at session = record st {
 
 -- the message that is read of the bytes is the one that arrives
 pub arrival-message : (wire count i : ℕ) (now : LiarState) (bytes : List ℕ) (m : Message) → IsClientCount (session_count now)
-    → wire ≡ now.wire → count ≡ session_count now → IsArrival now.wire (session_count now) i bytes → IsSpellingOf wire count bytes m
+    → wire ≡ now.wire → count ≡ session_count now → IsArrival now.wire (session_count now) i bytes → message_of wire count bytes ≡ Some m
     → IsForServer (session_count now) i m
 arrival-message wire count i now bytes m clients same_wire same_count arrival found =
-    let here : IsSpellingOf now.wire (session_count now) bytes m = subst (λ (n : ℕ). IsSpellingOf now.wire n bytes m) same_count
-    (subst (λ (w : ℕ). IsSpellingOf w count bytes m) same_wire found) in
-    subst (λ (z : Message). IsForServer (session_count now) i z)
-    (same_message now.wire (session_count now) bytes arrival.message m clients arrival.spelled here) arrival.for_server
+    let here : message_of wire count bytes ≡ Some arrival.message = ap (λ (w : ℕ). message_of w count bytes) same_wire
+    ∙ ap (λ (n : ℕ). message_of now.wire n bytes) same_count
+    ∙ message_only now.wire (session_count now) bytes arrival.message clients arrival.spelled in
+    subst (λ (z : Message). IsForServer (session_count now) i z) (same_Some arrival.message m (sym here ∙ found)) arrival.for_server
+
+-- the bytes of a message that arrives spell one
+pub arrival-spelled : (st now : LiarState) (count i : ℕ) (bytes : List ℕ) → st ≡ now → IsLiarState st → count ≡ session_count now
+    → IsArrival now.wire (session_count now) i bytes → IsSpelled st.wire count bytes
+arrival-spelled st now count i bytes view h same_count arrival =
+    let Known : LiarState → Type 0 = λ z. IsWire z.wire in
+    let Counted : LiarState → Type 0 = λ z. IsClientCount (session_count z) in
+    subst (λ (w : ℕ). IsSpelled w count bytes) (ap (λ (z : LiarState). z.wire) (sym view))
+    (subst (λ (n : ℕ). IsSpelled now.wire n bytes) (sym same_count)
+    (spelled-by now.wire (session_count now) bytes arrival.message (subst Known view h.wire_known) (subst Counted view h.count) arrival.spelled))
+
+if-there : (P : Message → Type 0) (o : Option Message) → ((m : Message) → o ≡ Some m → P m) → IfSome o P
+if-there P None each = tt
+if-there P (Some m) each = each m refl
 
 -- a session that is read
 module _ (st now : LiarState) (view : st ≡ now) (h : IsLiarState st) (i at : ℕ) (client : IsClient (session_count now) i) (from : at ≡ i)
@@ -102,14 +122,16 @@ module _ (st now : LiarState) (view : st ≡ now) (h : IsLiarState st) (i at : �
     taken_before = omega (arith, more);
   }
 
-  pub taken-due : (session_at now i).taken < length (session_at now i).replies → s.taken < length s.replies
-  taken-due more = let P : Session → Type 0 = λ z. z.taken < length z.replies in subst P (sym session-now) more
+  pub taken-due : (m : Message) → next_of (session_at now i) ≡ Some m → next_of s ≡ Some m
+  taken-due m next = let P : Session → Type 0 = λ z. next_of z ≡ Some m in subst P (sym session-now) next
 
-  pub kept-taken : (after : Session) → s.taken < length s.replies → after ≡ record s { taken = s.taken + 1 }
+  pub kept-taken : {X E : Type 0} (result : Result X E) (after : Session) (m : Message) → next_of (session_at now i) ≡ Some m
+      → OnOk result (after ≡ record s { taken = s.taken + 1 }) → OnErr result (after ≡ s)
       → IsLiarState (record st { sessions = slice_set st.sessions (at - 1) after })
-  kept-taken after more is =
+  kept-taken result after m next ok err =
       let P : Session → Type 0 = λ z. IsSessionFor (session_count st) (length st.branches) i z in
-      kept-put after (subst P (sym is) (one-more more))
+      let more : s.taken < length s.replies = slice_get_within s.replies s.taken m (taken-due m next) in
+      kept-put after (either-way P result after (record s { taken = s.taken + 1 }) s ok err (one-more more) session-range)
 
   pub taken-is : (after : Session) → after ≡ record s { taken = s.taken + 1 }
       → record st { sessions = slice_set st.sessions (at - 1) after } ≡ one_taken now i
@@ -120,8 +142,13 @@ module _ (st now : LiarState) (view : st ≡ now) (h : IsLiarState st) (i at : �
       from
       ∙ ap (λ (z : LiarState). one_taken z i) view
 
+  pub taken-ok : {X E : Type 0} (result : Result X E) (after : Session) → OnOk result (after ≡ record s { taken = s.taken + 1 })
+      → OnOk result (record st { sessions = slice_set st.sessions (at - 1) after } ≡ one_taken now i)
+  taken-ok (Ok x) after is = taken-is after is
+  taken-ok (Err e) after is = tt
+
   pub arrival-range : (wire count : ℕ) (bytes : List ℕ) (m : Message) → wire ≡ st.wire → count ≡ session_count now
-      → IsArrival now.wire (session_count now) i bytes → IsSpellingOf wire count bytes m → IsForServer (session_count st) i m
+      → IsArrival now.wire (session_count now) i bytes → message_of wire count bytes ≡ Some m → IsForServer (session_count st) i m
   arrival-range wire count bytes m same_wire same_count arrival found =
       let P : LiarState → Type 0 = λ z. IsForServer (session_count z) i m in
       let Q : LiarState → Type 0 = λ z. IsClientCount (session_count z) in
@@ -129,26 +156,26 @@ module _ (st now : LiarState) (view : st ≡ now) (h : IsLiarState st) (i at : �
       (arrival-message wire count i now bytes m (subst Q view h.count) (same_wire ∙ ap (λ (z : LiarState). z.wire) view) same_count arrival found)
 
   -- a reply that is read, and a message that arrived
-  pub reply-range : (k : ℕ) (xs : List Message) (m : Message) → xs ≡ s.replies → Some m ≡ nth k xs → IsAnswer (session_count now) m
-  reply-range k xs m same is =
-      subst (λ (z : LiarState). IsAnswer (session_count z) m) view
-      (nth-in_range (IsAnswer (session_count st)) s.replies k m session-range.replies_in_range
-      (ap (λ (ys : List Message). nth k ys) (sym same) ∙ sym is))
+  pub replies-range : (k count : ℕ) → count ≡ session_count now → IfSome (nth k s.replies) (IsAnswer count)
+  replies-range k count same =
+      let here : count ≡ session_count st = same ∙ ap (λ (z : LiarState). session_count z) (sym view) in
+      subst (λ (n : ℕ). IfSome (nth k s.replies) (IsAnswer n)) (sym here)
+      (if-there (IsAnswer (session_count st)) (nth k s.replies)
+      (λ m is. nth-in_range (IsAnswer (session_count st)) s.replies k m session-range.replies_in_range is))
 
   pub next-range : (m : Message) → Some m ≡ next_of s → IsAnswer (session_count now) m
   next-range m is =
       subst (λ (z : LiarState). IsAnswer (session_count z) m) view
       (got-in_range (IsAnswer (session_count st)) s.replies s.taken m session-range.replies_in_range (sym is))
 
-  pub next-there : (m : Message) → Some m ≡ next_of s → (session_at now i).taken < length (session_at now i).replies
-  next-there m is =
-      let P : Session → Type 0 = λ z. z.taken < length z.replies in
-      subst P session-now (slice_get_within s.replies s.taken m (sym is))
+  pub next-there : (m kept : Message) → Some m ≡ next_of s → kept ≡ m → next_of (session_at now i) ≡ Some kept
+  next-there m kept is same =
+      let P : Session → Type 0 = λ z. next_of z ≡ Some kept in
+      subst P session-now (sym is ∙ ap (λ (z : Message). Some z) (sym same))
 
-  pub message-range : (k : ℕ) (xs : List Message) (m : Message) → xs ≡ s.arrived → Some m ≡ nth k xs
-      → IsForServer (session_count st) i m
-  message-range k xs m same is = nth-in_range (IsForServer (session_count st) i) s.arrived k m session-range.arrived_in_range
-      (ap (λ (ys : List Message). nth k ys) (sym same) ∙ sym is)
+  pub message-range : (k : ℕ) (kept m : Message) → Some kept ≡ nth k s.arrived → m ≡ kept → IsForServer (session_count st) i m
+  message-range k kept m is same = nth-in_range (IsForServer (session_count st) i) s.arrived k m session-range.arrived_in_range
+      (sym is ∙ ap (λ (z : Message). Some z) (sym same))
 
   -- echo
   pub kept-echo : (to : ℕ) (branch after : State) (m : Message) (reply : Option Reply)
@@ -159,13 +186,13 @@ module _ (st now : LiarState) (view : st ≡ now) (h : IsLiarState st) (i at : �
       (subst (λ (z : Handled). IsStateFor (session_count st) z.state) (sym is)
       (handled-state (session_count st) branch i m (branch-range st h to branch read_branch within) client-here message))
 
-  pub echo-due : (k to : ℕ) (xs : List Message) (branch after : State) (m : Message) (reply : Option Reply) → xs ≡ s.arrived
-      → Some m ≡ nth k xs → branch ≡ slice_index_or st.branches to branch → to < length st.branches
+  pub echo-due : (k to : ℕ) (branch after : State) (kept m : Message) (reply : Option Reply) → Some kept ≡ nth k s.arrived
+      → m ≡ kept → branch ≡ slice_index_or st.branches to branch → to < length st.branches
       → record { state = after; reply = reply } ≡ handled branch i m
       → echoed now i k to ≡ Ok (with_branch st to after)
-  echo-due k to xs branch after m reply same is read_branch within done =
+  echo-due k to branch after kept m reply is same read_branch within done =
       let found : nth k (session_at st i).arrived ≡ Some m = ap (λ (z : Session). nth k z.arrived) (sym session-is)
-      ∙ ap (λ (ys : List Message). nth k ys) (sym same) ∙ sym is in
+      ∙ sym is ∙ ap (λ (z : Message). Some z) (sym same) in
       let state : (handled (branch_at st to) i m).state ≡ after = ap (λ (z : State). (handled z i m).state)
       (sym (branch-is st h to branch read_branch within))
       ∙ ap (λ (z : Handled). z.state) (sym done) in

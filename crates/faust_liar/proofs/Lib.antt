@@ -1,4 +1,5 @@
 pub mod Turns
+pub mod Spelled
 pub mod Sessions
 pub mod Kept
 pub mod Calls

@@ -1,19 +1,20 @@
-ghost use Rattle.std.specs.Prelude.{◌≡◌, ◌<◌, length, replicate, IfOk, OnOk, OnErr, option_copied};
+ghost use Rattle.std.specs.Prelude.{◌≡◌, Some, length, replicate, IfOk, OnOk, OnErr, option_copied};
 ghost use Rattle.faust_types.specs.Clients.{IsClientCount, IsClient};
 ghost use Rattle.faust_types.specs.Ranges.{IsWire};
 ghost use Rattle.faust_script.specs.InRange.{IsEditFor};
 ghost use Rattle.faust_wire.specs.Grammar.{spelling};
 ghost use Rattle.faust_liar.specs.InRange.{IsAnswer, IsArrival, IsFor, IsLiarState};
-ghost use Rattle.faust_liar.specs.Lies.{Does, Hands, again_due, arrived, branched, echoed, edited_due, first_lies, first_session, next_due, one_taken, routed, session_at, session_count};
+ghost use Rattle.faust_liar.specs.Lies.{Does, Hands, again_due, arrived, branched, echoed, edited_due, first_lies, first_session, next_due, next_of, one_taken, routed, session_at, session_count};
 
 use crate::branch::handle;
 use crate::change::lie;
 use crate::error::LiarError;
-use crate::session::{Session, nth};
+use crate::kept_message::Kept;
+use crate::session::Session;
 use faust_script::Edit;
 use faust_server::Server;
 use faust_types::{Bytes, Message, OutOfMemory};
-use faust_wire::{decode, encode};
+use faust_wire::encode;
 use std::alloc::Global;
 use std::marker::Model;
 
@@ -66,21 +67,17 @@ impl Liar {
     /// The message of client i arrives, in its bytes: the spelling of a SUBMIT or a COMMIT; where a COMMIT rides on a
     /// SUBMIT, it is that of the operation before. The client's branch handles it, and a reply goes into the client's
     /// queue.
-    pub fn arrive(&mut self, i: u8, message: &[u8]) -> Result<(), OutOfMemory>
+    pub fn arrive(&mut self, i: u8, message: Bytes) -> Result<(), OutOfMemory>
         requires client { IsClient (session_count self.old) i }
-        requires message { IsArrival self.old.wire (session_count self.old) i message.now }
-        ensures ok { OnOk result (self.new ≡ arrived self.old i message.now) }
+        requires message { IsArrival self.old.wire (session_count self.old) i message }
+        ensures ok { OnOk result (self.new ≡ arrived self.old i message) }
         ensures err { OnErr result (self.new ≡ self.old) }
         ensures frame { IsFor self.old.wire (session_count self.old) self.new }
     {
-        let alloc = *self.branches.allocator();
-        let message = match decode(alloc, self.wire, self.clients(), message) {
-            Ok(message) => message,
-            Err(_) => return Err(OutOfMemory),
-        };
+        let kept = Kept::of_bytes(self.wire, self.clients(), message);
         let place = usize::from(i) - 1;
-        let route = self.sessions[place].route;
-        self.sessions[place].receive(&mut self.branches[route], i, message)
+        let route = self.sessions[place].route();
+        self.sessions[place].receive(&mut self.branches[route], i, kept)
     }
 
     /// Branch `to`, the next number, becomes a copy of branch `from`.
@@ -108,7 +105,7 @@ impl Liar {
         if to >= self.branches.len() {
             return Err(LiarError::NoBranch);
         }
-        self.sessions[usize::from(i) - 1].route = to;
+        self.sessions[usize::from(i) - 1].follow(to);
         Ok(())
     }
 
@@ -120,13 +117,14 @@ impl Liar {
         ensures frame { IsFor self.old.wire (session_count self.old) self.new }
     {
         let session = &self.sessions[usize::from(i) - 1];
-        let Some(message) = nth(session.arrived.as_slice(), k) else {
+        let Some(kept) = session.arrived(k) else {
             return Err(LiarError::Nothing);
         };
         if to >= self.branches.len() {
             return Err(LiarError::NoBranch);
         }
-        let _reply = handle(&mut self.branches[to], i, message)?;
+        let message = kept.message()?;
+        let _reply = handle(&mut self.branches[to], i, &message)?;
         Ok(())
     }
 
@@ -139,8 +137,9 @@ impl Liar {
         let Some(reply) = self.sessions[usize::from(i) - 1].next() else {
             return Err(LiarError::Nothing);
         };
-        let bytes = self.spelled(reply)?;
-        self.take_one(i);
+        let kept = self.kept(reply)?;
+        let bytes = kept.bytes(self.wire, self.clients())?;
+        self.take_one(i, kept)?;
         Ok(bytes)
     }
 
@@ -150,10 +149,7 @@ impl Liar {
         ensures due { Hands result self.old self.new (again_due self.old i k) }
         ensures frame { IsFor self.old.wire (session_count self.old) self.new }
     {
-        let Some(reply) = nth(self.sessions[usize::from(i) - 1].replies.as_slice(), k) else {
-            return Err(LiarError::Nothing);
-        };
-        Ok(self.spelled(reply)?)
+        self.sessions[usize::from(i) - 1].again(self.wire, self.clients(), k)
     }
 
     /// Takes the next reply out of client i's queue, and gives the bytes of what the edit makes of it. With a key the
@@ -164,15 +160,16 @@ impl Liar {
         ensures due { Hands result self.old self.new (edited_due self.old i edit.now (option_copied key.entry)) }
         ensures frame { IsFor self.old.wire (session_count self.old) self.new }
     {
-        let Some(reply) = self.sessions[usize::from(i) - 1].next() else {
+        let Some(next) = self.sessions[usize::from(i) - 1].next() else {
             return Err(LiarError::Nothing);
         };
-        let Message::Reply(reply) = reply else {
+        let Message::Reply(reply) = next else {
             return Err(LiarError::Field);
         };
         let lied = lie(reply, edit, key)?;
+        let kept = self.kept(next)?;
         let bytes = self.spelled(&Message::Reply(lied))?;
-        self.take_one(i);
+        self.take_one(i, kept)?;
         Ok(bytes)
     }
 
@@ -183,12 +180,20 @@ impl Liar {
         encode(*self.branches.allocator(), self.wire, self.clients(), reply)
     }
 
-    fn take_one(&mut self, i: u8)
-        requires client { IsClient (session_count self.old) i }
-        requires more { (session_at self.old i).taken < length (session_at self.old i).replies }
-        ensures { self.new ≡ one_taken self.old i }
+    fn kept(&self, reply: &Message) -> Result<Kept, OutOfMemory>
+        requires { IsAnswer (session_count self.now) reply.now }
+        ensures { IfOk result (λ kept. kept ≡ reply.now) }
     {
-        self.sessions[usize::from(i) - 1].take_one();
+        Kept::of(*self.branches.allocator(), self.wire, self.clients(), reply)
+    }
+
+    fn take_one(&mut self, i: u8, reply: Kept) -> Result<(), OutOfMemory>
+        requires client { IsClient (session_count self.old) i }
+        requires next { next_of (session_at self.old i) ≡ Some reply }
+        ensures ok { OnOk result (self.new ≡ one_taken self.old i) }
+        ensures err { OnErr result (self.new ≡ self.old) }
+    {
+        self.sessions[usize::from(i) - 1].take_one(reply)
     }
 }
 

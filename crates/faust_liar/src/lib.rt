@@ -15,6 +15,7 @@ mod change;
 mod error;
 mod flip;
 mod forging;
+mod kept_message;
 pub mod laws;
 mod liar;
 mod pending;

@@ -54,7 +54,7 @@ fn arrive(liar: &mut Liar, alloc: Global, i: u8, m: Submit) -> Result<(), OutOfM
     ensures { IsFor 1 2 liar.new }
 {
     let bytes = encode(alloc, 1, 2, &Message::Submit(m))?;
-    liar.arrive(i, bytes.as_slice())
+    liar.arrive(i, bytes)
 }
 
 /// A liar for two clients to which client 1 submitted a write of the byte `a`, and client 2 a read of it.

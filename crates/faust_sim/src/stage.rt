@@ -99,7 +99,7 @@ impl Stage {
         self.push(client, PushInput::Arrive)?;
         match last_arrival(&self.run) {
             Some(message) => {
-                self.liar.arrive(client, message.as_slice())?;
+                self.liar.arrive(client, message.copy()?)?;
                 Ok(())
             }
             None => Ok(()),

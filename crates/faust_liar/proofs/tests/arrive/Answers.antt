@@ -22,5 +22,5 @@ arrival st i m bytes is fits alone spelled =
 
 pub arrive-requires-clause-message : goal.arrive-requires-clause-message
 arrive-requires-clause-message c =
-    arrival c.args.liar.now c.args.i c.args.m c.as_slice.result.now c.requires.liar c.requires.message c.requires.alone
-    (c.as_slice.ensures ∙ c.in_ok-bytes.ensures)
+    arrival c.args.liar.now c.args.i c.args.m c.in_ok-bytes.bytes c.requires.liar c.requires.message c.requires.alone
+    c.in_ok-bytes.ensures

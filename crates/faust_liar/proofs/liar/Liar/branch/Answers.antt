@@ -1,4 +1,4 @@
-use Rattle.std.proofs.Common.{◌≡◌, ◌<◌, length, is_ok, subst, sym, rules}
+use Rattle.std.proofs.Common.{◌<◌, length, is_ok, subst, sym, rules}
 use Rattle.faust_server.specs.Rows.{State}
 use Rattle.faust_server.specs.States.{IsStateFor}
 use Rattle.faust_liar.proofs.Calls.{branch-range, kept-pushed}

@@ -1,8 +1,8 @@
-use Rattle.faust_types.specs.declared.message.Message.TheVariants as messages
-use Rattle.faust_liar.proofs.Sessions.{put-arrived}
+use Rattle.faust_liar.proofs.Sessions.{session-received}
 use Rattle.faust_liar.proofs.session.Session.receive.Goals as goal
 
 pub returns-in-Ok-clause-session : goal.returns-in-Ok-clause-session
 returns-in-Ok-clause-session c =
-    put-arrived c.args.self.now c.answer.new.self c.push.new.self c.set.new.self c.len-place.result (messages.Hello 0) c.args.message _
-    c.len-place.ensures c.in_ok-push.ensures.ok c.in-Ok.ensures.session c.set.ensures
+    session-received c.self.inside.route c.self.inside.arrived c.push.new.self c.self.inside.handed c.self.inside.waiting.items
+    c.answer.new.waiting.items c.args.message c.in_ok-read.read c.args.i c.args.branch.now c.args.self.now c.self.view_is
+    c.in_ok-read.ensures c.in_ok-push.ensures.ok c.in-Ok.ensures.replies
