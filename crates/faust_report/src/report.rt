@@ -40,9 +40,12 @@ fn room_for(findings: &Findings) -> usize {
 
 fn room_for_fact(fact: &Fact) -> usize {
     let value = match &fact.done {
-        Some(Answer {
-            value: Some(value), ..
-        }) => value.len(),
+        Some(
+            Answer {
+                value: Some(value),
+                ..
+            },
+        ) => value.len(),
         _ => 0,
     };
     let cut = match &fact.cut {
