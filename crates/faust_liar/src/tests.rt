@@ -110,6 +110,8 @@ fn hands_out_replies(rt: HostRuntime) {
         edited(&mut liar, &Edit::DropTuple(1), None),
         Ok((55, None))
     );
+    assert_eq!(rt; again(&mut liar, 1, 1), Ok(8));
+    assert_eq!(rt; again(&mut liar, 2, 1), Ok(90));
 }
 
 /// The expected byte is the first of HMAC with SHA-256 under the key 07 of 02 01, the number 2 in eight bytes, 01, and

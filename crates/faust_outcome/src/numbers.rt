@@ -9,6 +9,7 @@ use crate::words::LiveCommand;
 use faust_node::Receipt;
 use faust_receipts::Receipts;
 use faust_record::{Fact, Findings};
+use faust_report::notices;
 use faust_text::put_number;
 use faust_types::{Bytes, OutOfMemory, Sequence};
 use std::alloc::Global;
@@ -88,10 +89,4 @@ fn put_failures(out: &mut Bytes, facts: &[Fact]) -> Result<(), OutOfMemory>
     out.append(b"failures ")?;
     put_number(out, notices(facts) as u64)?;
     out.push(b'\n')
-}
-
-fn notices(facts: &[Fact]) -> usize
-    ensures { result ≡ notices facts.now }
-{
-    facts.iter().filter(|fact| fact.notice.is_some()).count()
 }

@@ -19,4 +19,4 @@ mod totals;
 
 pub use json_report::json;
 pub use report::{body, text};
-pub use totals::summary;
+pub use totals::{notices, summary};

@@ -72,7 +72,13 @@ fn put_cuts(out: &mut Bytes, facts: &[Fact], clients: u8) -> Result<(), OutOfMem
 fn completed(facts: &[Fact]) -> usize
     ensures { result ≡ completed facts.now }
 {
-    facts.iter().filter(|fact| fact.done.is_some()).count()
+    let mut done = 0;
+    for fact in facts {
+        if fact.done.is_some() {
+            done += 1;
+        }
+    }
+    done
 }
 
 fn completed_by(facts: &[Fact], client: u8) -> usize
@@ -84,10 +90,17 @@ fn completed_by(facts: &[Fact], client: u8) -> usize
         .count()
 }
 
-fn notices(facts: &[Fact]) -> usize
+/// How many notices there are among the facts.
+pub fn notices(facts: &[Fact]) -> usize
     ensures { result ≡ notices facts.now }
 {
-    facts.iter().filter(|fact| fact.notice.is_some()).count()
+    let mut notices = 0;
+    for fact in facts {
+        if fact.notice.is_some() {
+            notices += 1;
+        }
+    }
+    notices
 }
 
 /// How many of clients 1 to `clients` have a whole cut.

@@ -1,4 +1,4 @@
-use Rattle.faust_liar.proofs.Calls.{replies-range, again-is}
+use Rattle.faust_liar.proofs.Calls.{replies-range}
 use Rattle.faust_liar.proofs.liar.Liar.again.Goals as goal
 
 pub again-requires-clause-in_range : goal.again-requires-clause-in_range
