@@ -33,7 +33,7 @@ arrive-requires-clause-message c =
     let same : mid.liar ≡ scene.liar = (scene-pushed scene (scene_of mid) i given.Arrive taken).1 in
     let fits : IsLiarOf scene.run.config mid.liar = subst (IsLiarOf scene.run.config) (sym same) c.requires.kept.liar in
     let by = due_sent scene.run.config scene.run.entries i bytes c.requires.kept.run c.requires.client due in
-    subst (IsArrival mid.liar.wire (session_count mid.liar) i) (sym c.in_ok-copy.ensures)
+    subst (IsArrival mid.liar.wire (session_count mid.liar) i) (sym c.in_ok-copy-in-Some.ensures)
     (arrival-fits scene.run.config mid.liar i bytes fits by)
 
 pub returns-in_ok-arrive-in-Some : goal.returns-in_ok-arrive-in-Some
@@ -53,5 +53,5 @@ returns-in_ok-arrive-in-Some c =
       };
       is_due = arrival-next scene (scene_of mid) i bytes due taken
           ∙ ap (λ (liar : LiarState). Ok (record { run = mid.run; liar = liar }))
-          (ap (λ (b : List ℕ). arrived mid.liar i b) (sym c.in_ok-copy.ensures) ∙ sym handled);
+          (ap (λ (b : List ℕ). arrived mid.liar i b) (sym c.in_ok-copy-in-Some.ensures) ∙ sym handled);
     }
