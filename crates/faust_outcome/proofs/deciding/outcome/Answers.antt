@@ -3,7 +3,7 @@ use Rattle.faust_record.specs.Merging.{Merges, merged}
 use Rattle.faust_record.specs.declared.errors.MergeError.{MergeError}
 use Rattle.faust_record.specs.declared.errors.MergeError.TheVariants as merges
 use Rattle.faust_outcome.specs.Outcomes.{AreRuns, IsPromisedOf}
-use Rattle.faust_outcome.proofs.OutcomeLaws.{any-ok, are-runs, merged-with, none-are-runs, promised-of}
+use Rattle.faust_outcome.proofs.OutcomeLaws.{any-ok, are-runs, due-has, merged-with, none-are-runs, promised-of}
 use Rattle.faust_outcome.proofs.Sizes.{as-many-users, few-entries, few-receipts}
 use Rattle.faust_outcome.proofs.deciding.outcome.Goals as goal
 
@@ -23,6 +23,13 @@ of_run-requires-clause-few_entries c =
     let it = c.args.gathered in
     let merged_is = merged-with command it c.in_ok-config.config (Ok c.in-Ok.run') c.in_ok-config.ensures.config c.in-Ok.ensures in
     few-entries command it c.in-Ok.run' c.requires.range c.requires.gathered merged_is
+
+pub returns-in-Ok-clause-text : goal.returns-in-Ok-clause-text
+returns-in-Ok-clause-text c =
+    let command = c.args.command.now in
+    let it = c.args.gathered in
+    due-has command it (Ok c.in-Ok.run') c.of_run.result
+    (merged-with command it c.in_ok-config.config (Ok c.in-Ok.run') c.in_ok-config.ensures.config c.in-Ok.ensures) c.of_run.ensures.output
 
 pub returns-in-Ok-clause-runs : goal.returns-in-Ok-clause-runs
 returns-in-Ok-clause-runs c =
@@ -61,6 +68,17 @@ returns-in-Err-Client-clause-promised c =
     any-ok c.stranger.result (IsPromisedOf command it)
     (promised-of command it
     (none-are-runs command it e (merged-with command it c.in_ok-config.config (Err e) c.in_ok-config.ensures.config refused)))
+
+pub returns-in-Err-Frame-clause-text : goal.returns-in-Err-Frame-clause-text
+returns-in-Err-Frame-clause-text c =
+    let command = c.args.command.now in
+    let it = c.args.gathered in
+    let e : MergeError = merges.Frame c.in-Err-Frame.client c.in-Err-Frame.index c.in-Err-Frame.sent c.in-Err-Frame.got in
+    let refused : merged c.in_ok-config.config it.journals it.arrivals ≡ Err e =
+    subst (λ (x : MergeError). Merges (Err x) (merged c.in_ok-config.config it.journals it.arrivals)) c.in-Err-Frame.field-0-is
+    c.in-Err-Frame.ensures in
+    due-has command it (Err e) c.frame.result
+    (merged-with command it c.in_ok-config.config (Err e) c.in_ok-config.ensures.config refused) c.frame.ensures
 
 pub returns-in-Err-Frame-clause-runs : goal.returns-in-Err-Frame-clause-runs
 returns-in-Err-Frame-clause-runs c =
