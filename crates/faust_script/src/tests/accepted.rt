@@ -5,15 +5,15 @@ use std::test::Fail;
 const EVERY_LINE: [(&[u8], &str); 44] = [
     (
         b"write 1 \"\"",
-        "Write { client: 1, value: Sequence { items: [] } }",
+        "Write { client: 1, value: Bytes { held: Own([]) } }",
     ),
     (
         b"write 32 \"a ~\"",
-        "Write { client: 32, value: Sequence { items: [97, 32, 126] } }",
+        "Write { client: 32, value: Bytes { held: Own([97, 32, 126]) } }",
     ),
     (
         b"write 1 0x00ff",
-        "Write { client: 1, value: Sequence { items: [0, 255] } }",
+        "Write { client: 1, value: Bytes { held: Own([0, 255]) } }",
     ),
     (b"read 1 32", "Read { client: 1, register: 32 }"),
     (b"read 32 1", "Read { client: 32, register: 1 }"),
@@ -31,11 +31,11 @@ const EVERY_LINE: [(&[u8], &str); 44] = [
     ),
     (
         b"post 1 0x",
-        "Post { receiver: 1, bytes: Sequence { items: [] } }",
+        "Post { receiver: 1, bytes: Bytes { held: Own([]) } }",
     ),
     (
         b"post 32 0x0a",
-        "Post { receiver: 32, bytes: Sequence { items: [10] } }",
+        "Post { receiver: 32, bytes: Bytes { held: Own([10]) } }",
     ),
     (b"branch 0 7", "Branch { from: 0, to: 7 }"),
     (b"branch 7 0", "Branch { from: 7, to: 0 }"),
@@ -85,21 +85,21 @@ const EVERY_LINE: [(&[u8], &str); 44] = [
     ),
     (
         b"forge 1 value \"b\"",
-        "Forged { client: 1, edit: Value(Sequence { items: [98] }) }",
+        "Forged { client: 1, edit: Value(Bytes { held: Own([98]) }) }",
     ),
     (
         b"edit 1 value 0x",
-        "Edited { client: 1, edit: Value(Sequence { items: [] }) }",
+        "Edited { client: 1, edit: Value(Bytes { held: Own([]) }) }",
     ),
     (b"edit 1 dtag", "Edited { client: 1, edit: Dtag }"),
     (b"forge 32 unread", "Forged { client: 32, edit: Unread }"),
     (
         b"raw 1 0x",
-        "Raw { client: 1, bytes: Sequence { items: [] } }",
+        "Raw { client: 1, bytes: Bytes { held: Own([]) } }",
     ),
     (
         b"raw 32 0xff",
-        "Raw { client: 32, bytes: Sequence { items: [255] } }",
+        "Raw { client: 32, bytes: Bytes { held: Own([255]) } }",
     ),
 ];
 
