@@ -1,12 +1,11 @@
 -- The tests on versions say what the order of versions says, and it is a partial order.
-use Rattle.std.proofs.Common.{◌≡◌, ◌↔◌, ℕ, ◌+◌, ◌-◌, ◌<◌, ◌≤◌, zero, suc, true, false, Bool, cond, ◌==◌, ◌&&◌, ◌||◌, nat_lt, Option, Some, None, List, [], ◌∷◌, length, get_or, replicate, IsNone, refl, sym, ap, ◌∙◌, subst, inl, inr, arith}
-use Rattle.std.proofs.lemmas.Bool.{true≢false, cases_Bool, and_parts, and_from, or_cases, or_left, or_right, ltb-true, lt-ltb, eqb-true, eq-eqb, cases_lt, cases_eq}
+use Rattle.std.proofs.Common.{◌≡◌, ◌↔◌, ℕ, ◌+◌, ◌-◌, ◌<◌, ◌≤◌, zero, suc, true, false, Bool, ◌==◌, ◌&&◌, ◌||◌, nat_lt, Option, Some, None, List, [], ◌∷◌, length, get_or, replicate, IsNone, refl, sym, ap, ◌∙◌, subst, inl, inr, arith}
+use Rattle.std.proofs.lemmas.Bool.{true≢false, and_parts, and_from, or_cases, or_left, or_right, ltb-true, lt-ltb, eqb-true, eq-eqb, cases_lt, cases_eq}
 use Rattle.std.proofs.lemmas.List.{ext_get_or, get_or-replicate}
 use Rattle.std.proofs.lemmas.Slice.Eq.{bytes_eq-Decides}
 use Rattle.faust_types.specs.Clients.{IsClient}
 use Rattle.faust_types.specs.Versions.{Vector, IsVersion, IsAtMost, IsOrder, clients_of, timestamp_at, digest_at, initial, is_same_digest, is_entry_at_most, are_entries_at_most, is_at_most, are_timestamps_zero, is_initial, is_comparable, compared, compared_by}
-use Rattle.faust_types.specs.declared.version.Compared.{Compared}
-use Rattle.faust_types.specs.declared.version.Compared.TheVariants.{Less, Equal, Greater, Apart}
+use Rattle.faust_types.specs.declared.version.Compared.TheVariants.{Apart}
 
 pub same_digest-true : (a b : Option (List ℕ)) → is_same_digest a b ≡ true → a ≡ b
 same_digest-true None None h = refl
@@ -45,6 +44,14 @@ entries-from v w zero each = refl
 entries-from v w (suc n) each = and_from _ _
     (entries-from v w n (λ k c. each k (record { from_one = c.from_one; to_n = omega (arith, c.to_n) })))
     (each (suc n) (record { from_one = omega arith; to_n = omega arith }))
+
+not-true : (b : Bool) → ¬ (b ≡ true) → b ≡ false
+not-true true h = absurd (h refl)
+not-true false h = refl
+
+-- where one place fails, the whole does
+pub fails-at : (v w : Vector) (n k : ℕ) → IsClient n k → is_entry_at_most v w k ≡ false → are_entries_at_most v w n ≡ false
+fails-at v w n k c h = not-true _ (λ all. true≢false (sym (entries-true v w n all k c) ∙ h))
 
 -- the test is the order
 pub is_at_most-means : (v w : Vector) → (is_at_most v w ≡ true) ↔ IsAtMost v w

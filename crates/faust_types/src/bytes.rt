@@ -3,25 +3,26 @@ ghost use Rattle.std.specs.Arc.{arc_value};
 
 use crate::out_of_memory::OutOfMemory;
 use std::alloc::Global;
+use std::fmt;
 use std::marker::Model;
 use std::sync::Arc;
 
 /// Bytes: a value, a key, a message, a text. They lie in memory of their own or in memory that several owners share,
 /// which no clause tells apart: a copy of shared bytes takes no memory, and bytes that grow become their own first.
-#[derive(Debug, Drop)]
+#[derive(Drop)]
 pub struct Bytes {
     held: Held,
 }
 
 /// Where bytes lie.
-#[derive(Debug, Drop)]
+#[derive(Drop)]
 pub enum Held {
     Own(Vec<u8>),
     Shared(Prefix),
 }
 
 /// The first `len` bytes of memory that may have other owners: all of them where there are no more.
-#[derive(Debug, Drop)]
+#[derive(Drop)]
 pub struct Prefix {
     pub bytes: Arc<Vec<u8>, Global>,
     pub len: usize,
@@ -34,6 +35,13 @@ impl Model for Bytes {
     ghost Value = { List ℕ };
 
     ghost view = { λ b. bytes_of b.held };
+}
+
+/// A list of numbers.
+impl fmt::Debug for Bytes {
+    fn fmt<W: fmt::Write>(&self, f: &mut fmt::Formatter<W>) -> fmt::Result {
+        f.debug_list().entries(self.as_slice()).finish()
+    }
 }
 
 impl Prefix {

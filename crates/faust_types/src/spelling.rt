@@ -52,8 +52,9 @@ pub fn put_optional(bytes: Option<[u8; 32]>, out: &mut Bytes) -> Result<(), OutO
     match bytes {
         None => out.push(ABSENT),
         Some(bytes) => {
-            out.push(PRESENT)?;
-            out.append(&bytes)
+            let mut piece = [PRESENT; 33];
+            piece[1..].copy_from_slice(&bytes);
+            out.append(&piece)
         }
     }
 }

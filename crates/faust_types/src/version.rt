@@ -108,11 +108,12 @@ impl Version {
         ensures test { result ≡ is_at_most self.now other.now }
         ensures meaning { IsTrue result ↔ IsAtMost self.now other.now }
     {
-        let mut holds = true;
         for before in 0..self.clients() {
-            holds = holds && self.is_entry_at_most(other, before + 1);
+            if !self.is_entry_at_most(other, before + 1) {
+                return false;
+            }
         }
-        holds
+        true
     }
 
     fn is_entry_at_most(&self, other: &Version, k: u8) -> bool
@@ -120,8 +121,10 @@ impl Version {
         requires client { IsClient (clients_of self.now) k }
         ensures { result ≡ is_entry_at_most self.now other.now k }
     {
-        let (mine, theirs) = (self.at(k), other.at(k));
-        mine < theirs || (mine == theirs && is_same_digest(self.digest(k), other.digest(k)))
+        let place = usize::from(k) - 1;
+        let (mine, theirs) = (self.timestamps[place], other.timestamps[place]);
+        mine < theirs
+            || (mine == theirs && is_same_digest(&self.digests[place], &other.digests[place]))
     }
 
     /// How this version and the other compare.
@@ -194,14 +197,26 @@ impl Version {
     }
 }
 
-fn is_same_digest(mine: Option<Digest>, theirs: Option<Digest>) -> bool
-    ensures { result ≡ is_same_digest mine theirs }
+fn is_same_digest(mine: &Option<Digest>, theirs: &Option<Digest>) -> bool
+    ensures { result ≡ is_same_digest mine.now theirs.now }
 {
     match (mine, theirs) {
         (None, None) => true,
-        (Some(mine), Some(theirs)) => mine == theirs,
+        (Some(mine), Some(theirs)) => differences(mine, theirs) == 0,
         _ => false,
     }
+}
+
+// The bits in which the bytes at some place differ: 0 exactly where all bytes agree. It takes no branch at a byte.
+#[tactic(auto, using(crate::proofs::Places::one_more_place))]
+fn differences(mine: &Digest, theirs: &Digest) -> u8
+    ensures { (result ≡ 0) ↔ (mine.now ≡ theirs.now) }
+{
+    let mut bits = 0;
+    for i in 0..32 {
+        bits |= mine[i] ^ theirs[i];
+    }
+    bits
 }
 
 #[tactic(auto, unfolding(crate::specs::Spelling::be64))]

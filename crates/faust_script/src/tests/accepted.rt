@@ -3,18 +3,12 @@ use faust_types::{Bytes, Sequence};
 use std::test::Fail;
 
 const EVERY_LINE: [(&[u8], &str); 44] = [
-    (
-        b"write 1 \"\"",
-        "Write { client: 1, value: Bytes { held: Own([]) } }",
-    ),
+    (b"write 1 \"\"", "Write { client: 1, value: [] }"),
     (
         b"write 32 \"a ~\"",
-        "Write { client: 32, value: Bytes { held: Own([97, 32, 126]) } }",
+        "Write { client: 32, value: [97, 32, 126] }",
     ),
-    (
-        b"write 1 0x00ff",
-        "Write { client: 1, value: Bytes { held: Own([0, 255]) } }",
-    ),
+    (b"write 1 0x00ff", "Write { client: 1, value: [0, 255] }"),
     (b"read 1 32", "Read { client: 1, register: 32 }"),
     (b"read 32 1", "Read { client: 32, register: 1 }"),
     (b"arrive 1", "Arrive { client: 1 }"),
@@ -29,14 +23,8 @@ const EVERY_LINE: [(&[u8], &str); 44] = [
         b"peer 3 3 20000",
         "Peer { sender: 3, receiver: 3, k: 20000 }",
     ),
-    (
-        b"post 1 0x",
-        "Post { receiver: 1, bytes: Bytes { held: Own([]) } }",
-    ),
-    (
-        b"post 32 0x0a",
-        "Post { receiver: 32, bytes: Bytes { held: Own([10]) } }",
-    ),
+    (b"post 1 0x", "Post { receiver: 1, bytes: [] }"),
+    (b"post 32 0x0a", "Post { receiver: 32, bytes: [10] }"),
     (b"branch 0 7", "Branch { from: 0, to: 7 }"),
     (b"branch 7 0", "Branch { from: 7, to: 0 }"),
     (b"route 1 0", "Route { client: 1, to: 0 }"),
@@ -85,22 +73,13 @@ const EVERY_LINE: [(&[u8], &str); 44] = [
     ),
     (
         b"forge 1 value \"b\"",
-        "Forged { client: 1, edit: Value(Bytes { held: Own([98]) }) }",
+        "Forged { client: 1, edit: Value([98]) }",
     ),
-    (
-        b"edit 1 value 0x",
-        "Edited { client: 1, edit: Value(Bytes { held: Own([]) }) }",
-    ),
+    (b"edit 1 value 0x", "Edited { client: 1, edit: Value([]) }"),
     (b"edit 1 dtag", "Edited { client: 1, edit: Dtag }"),
     (b"forge 32 unread", "Forged { client: 32, edit: Unread }"),
-    (
-        b"raw 1 0x",
-        "Raw { client: 1, bytes: Bytes { held: Own([]) } }",
-    ),
-    (
-        b"raw 32 0xff",
-        "Raw { client: 32, bytes: Bytes { held: Own([255]) } }",
-    ),
+    (b"raw 1 0x", "Raw { client: 1, bytes: [] }"),
+    (b"raw 32 0xff", "Raw { client: 32, bytes: [255] }"),
 ];
 
 #[test]
