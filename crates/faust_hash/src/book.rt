@@ -1,10 +1,12 @@
 // What a key and its copies computed before.
-ghost use Rattle.std.specs.Prelude.{◌≡◌, IfSome};
+ghost use Rattle.std.specs.Prelude.{◌≡◌, ◌↔◌, IfSome, IsTrue};
 ghost use Rattle.std.specs.Arc.{arc_value};
-ghost use Rattle.faust_hash.specs.Chain.{value_digest_of};
+ghost use Rattle.std.specs.Option.{option_copied};
+ghost use Rattle.faust_hash.specs.Chain.{link, value_digest_of};
 ghost use Rattle.faust_hash.specs.Hmac.{tag_under};
 
-use crate::places::{TAGS, VALUES, tag_place, value_place};
+use crate::compare::same;
+use crate::places::{LINKS, TAGS, VALUES, link_place, tag_place, value_place};
 use std::alloc::{AllocError, Global};
 use std::sync::{Arc, Mutex};
 
@@ -25,13 +27,24 @@ struct Digested {
     ghost right: { digest ≡ value_digest_of (arc_value value).items },
 }
 
-// Tags by their bodies, and digests of values. Each table has a fixed number of places, and where two fall into
-// one place the later stays. A table that another thread uses is passed over: nothing waits.
+// The digest of a chain with what its last link is made of: the digest before and the client.
+#[derive(Drop)]
+struct Linked {
+    before: Option<[u8; 32]>,
+    client: u8,
+    digest: [u8; 32],
+    ghost right: { digest ≡ link before client },
+}
+
+// Tags by their bodies, digests of values, and digests of chains by what each link is made of. Each table has a
+// fixed number of places, and where two fall into one place the later stays. A table that another thread uses is
+// passed over: nothing waits.
 #[derive(Drop)]
 pub(crate) struct Book {
     alloc: Global,
     tags: Arc<Mutex<Vec<Option<Made>>>, Global>,
     values: Arc<Mutex<Vec<Option<Digested>>>, Global>,
+    links: Arc<Mutex<Vec<Option<Linked>>>, Global>,
 }
 
 impl Book {
@@ -41,10 +54,13 @@ impl Book {
         tags.resize_with(TAGS, || None)?;
         let mut values = Vec::new(alloc);
         values.resize_with(VALUES, || None)?;
+        let mut links = Vec::new(alloc);
+        links.resize_with(LINKS, || None)?;
         Ok(Book {
             alloc,
             tags: Arc::new(alloc, Mutex::new(tags))?,
             values: Arc::new(alloc, Mutex::new(values))?,
+            links: Arc::new(alloc, Mutex::new(links))?,
         })
     }
 
@@ -54,6 +70,7 @@ impl Book {
             alloc: self.alloc,
             tags: Arc::try_clone(&self.tags).ok()?,
             values: Arc::try_clone(&self.values).ok()?,
+            links: Arc::try_clone(&self.links).ok()?,
         })
     }
 
@@ -118,6 +135,32 @@ impl Book {
             *place = Some(digested);
         }
     }
+
+    // The digest of the chain with client `k` behind the chain of the digest before, if it stands here.
+    pub(crate) fn link(&self, before: Option<&[u8; 32]>, k: u8) -> Option<[u8; 32]>
+        ensures { IfSome result (λ digest. digest ≡ link (option_copied before.entry) k) }
+    {
+        let links = self.links.try_lock()?;
+        let linked = links.get(link_place(before, k))?.as_ref()?;
+        linked.digest_of(before, k)
+    }
+
+    // Puts the digest of a chain at the place of the digest before and the client.
+    pub(crate) fn put_link(&self, before: Option<&[u8; 32]>, k: u8, digest: [u8; 32])
+        requires { digest ≡ link (option_copied before) k }
+    {
+        let linked = Linked {
+            before: before.copied(),
+            client: k,
+            digest,
+        };
+        let Some(mut links) = self.links.try_lock() else {
+            return;
+        };
+        if let Some(place) = links.get_mut(link_place(before, k)) {
+            *place = Some(linked);
+        }
+    }
 }
 
 impl Made {
@@ -163,5 +206,29 @@ impl Digested {
         } else {
             None
         }
+    }
+}
+
+impl Linked {
+    // The digest, if it is that of client `k` behind the chain of this digest.
+    fn digest_of(&self, before: Option<&[u8; 32]>, k: u8) -> Option<[u8; 32]>
+        ensures { IfSome result (λ digest. digest ≡ link (option_copied before.entry) k) }
+    {
+        if self.client == k && is_before(&self.before, before) {
+            Some(self.digest)
+        } else {
+            None
+        }
+    }
+}
+
+// Whether the digest before that is remembered is this one.
+fn is_before(remembered: &Option<[u8; 32]>, before: Option<&[u8; 32]>) -> bool
+    ensures { IsTrue result ↔ (remembered.now ≡ option_copied before.entry) }
+{
+    match (remembered, before) {
+        (None, None) => true,
+        (Some(remembered), Some(before)) => same(remembered, before),
+        _ => false,
     }
 }

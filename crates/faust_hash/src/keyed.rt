@@ -1,11 +1,12 @@
 ghost use Rattle.std.specs.Prelude.{◌≡◌, ◌≤◌, length, IfSome};
 ghost use Rattle.std.specs.Arc.{arc_value};
+ghost use Rattle.std.specs.Option.{option_copied};
 ghost use Rattle.sha2.specs.Hashers.{Holds256};
-ghost use Rattle.faust_hash.specs.Chain.{value_digest_of};
+ghost use Rattle.faust_hash.specs.Chain.{link, value_digest_of};
 ghost use Rattle.faust_hash.specs.Hmac.{block_key as block_key_of, hmac_of, masked as masked_by, padded as padded_bytes};
 
 use crate::book::Book;
-use crate::digests::value_digest;
+use crate::digests::{chain, value_digest};
 use crate::ghost_bytes::GhostBytes;
 use sha2::{Digest, Sha256};
 use std::alloc::Global;
@@ -24,7 +25,8 @@ const OUTER_PAD: u8 = 0x5c;
 /// A key made ready for many tags, as section 4 of RFC 2104 has it: both hashes have taken in their block of the
 /// key, and a tag of a short body costs two more blocks in place of four. Clauses see the key's bytes.
 ///
-/// One made by `with_book` remembers tags and digests of values that it computed, and so do its copies, together.
+/// One made by `with_book` remembers tags and digests of values and chains that it computed, and so do its copies,
+/// together.
 /// What is asked again is looked up. No answer depends on what is remembered.
 #[derive(Drop)]
 pub struct PreparedKey {
@@ -54,8 +56,8 @@ impl PreparedKey {
         PreparedKey::prepared(key, None)
     }
 
-    /// The key, of any length, made ready, with a book that its copies share. Where there is no memory for the book
-    /// it has none, and computes each answer.
+    /// The key, of any length, made ready, with a book of tags and of digests of values and chains that its copies
+    /// share. Where there is no memory for the book it has none, and computes each answer.
     pub fn with_book(alloc: Global, key: &[u8]) -> PreparedKey
         ensures { result ≡ key.now }
     {
@@ -117,6 +119,22 @@ impl PreparedKey {
         }
         let digest = value_digest(value);
         book.put_digest(value, digest);
+        digest
+    }
+
+    /// The digest of a chain, as `chain` gives it, looked up where this key or a copy computed it before. It doesn't
+    /// depend on the key.
+    pub fn chain(&self, prev: Option<&[u8; 32]>, k: u8) -> [u8; 32]
+        ensures { result ≡ link (option_copied prev.entry) k }
+    {
+        let Some(book) = &self.book else {
+            return chain(prev, k);
+        };
+        if let Some(digest) = book.link(prev, k) {
+            return digest;
+        }
+        let digest = chain(prev, k);
+        book.put_link(prev, k, digest);
         digest
     }
 

@@ -3,8 +3,8 @@
 //! by step, `value_digest` that of a value, and `input_digest` that of any hashed input. Each call always
 //! succeeds, and returns exactly what a definition in `specs/` says: read `Hmac` first, then `Chain`. No call
 //! takes memory but those of a key that `PreparedKey::with_book` made: such a key and its copies remember a fixed
-//! number of tags and values, and where memory is wanting they remember less and answer the same. `laws` states
-//! what those definitions keep. That SHA-256 has no collisions is no promise of this crate.
+//! number of tags, of values and of links of chains, and where memory is wanting they remember less and answer the
+//! same. `laws` states what those definitions keep. That SHA-256 has no collisions is no promise of this crate.
 #![tactic(auto)]
 
 mod book;

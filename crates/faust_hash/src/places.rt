@@ -6,6 +6,9 @@ pub(crate) const TAGS: usize = 4096;
 // How many values are remembered.
 pub(crate) const VALUES: usize = 1024;
 
+// How many digests of chains are remembered.
+pub(crate) const LINKS: usize = 1024;
+
 // How many bytes of either end of a value its place comes of.
 const END: usize = 64;
 
@@ -27,6 +30,17 @@ pub(crate) fn value_place(value: &[u8]) -> usize
     let end = if len < END { len } else { END };
     let front = mixed(&value[..end], len as u64);
     spread(mixed(&value[len - end..], front)) % VALUES
+}
+
+// The place of a digest of a chain in a table of them, by the first bytes of the digest before and by the client.
+pub(crate) fn link_place(before: Option<&[u8; 32]>, k: u8) -> usize
+    ensures { result < 1024 }
+{
+    let front: &[u8] = match before {
+        None => &[],
+        Some(digest) => &digest[..8],
+    };
+    spread(mixed(front, u64::from(k))) % LINKS
 }
 
 // All bytes, 8 at a time, mixed into `start`.

@@ -1,4 +1,4 @@
-use crate::places::tag_place;
+use crate::places::{link_place, tag_place};
 use crate::{PreparedKey, chain, hmac, input_digest, same, value_digest};
 
 // The test cases of RFC 4231 in their order, the fifth of which tells the first 16 bytes alone. Then keys of no
@@ -196,6 +196,44 @@ fn digests_with_a_book_are_those_without(rt: HostRuntime) {
         }
     }
     assert!(rt; copy.shared_value(&[7; 4096]).is_none());
+}
+
+// Whether a key gives the digest that `chain` gives, when it is asked first and when it is asked again.
+fn links_agree(key: &PreparedKey, prev: Option<&[u8; 32]>, k: u8) -> bool {
+    let digest = chain(prev, k);
+    key.chain(prev, k) == digest && key.chain(prev, k) == digest
+}
+
+// More links than there are places. A copy is asked for what the key computed, and a key without a book too.
+#[test]
+fn links_with_a_book_are_those_without(rt: HostRuntime) {
+    let book = PreparedKey::with_book(rt.alloc(), b"key");
+    let copy = book.copy();
+    let plain = PreparedKey::new(b"key");
+    let mut prev = None;
+    for k in 0..2000u16 {
+        let k = (k % 32) as u8;
+        assert!(rt; links_agree(&book, prev.as_ref(), k));
+        assert!(rt; links_agree(&copy, prev.as_ref(), k));
+        assert!(rt; links_agree(&plain, prev.as_ref(), k));
+        prev = Some(chain(prev.as_ref(), k));
+    }
+}
+
+// Digests that agree in their first bytes fall on one place.
+#[test]
+fn links_that_fall_on_one_place(rt: HostRuntime) {
+    let book = PreparedKey::with_book(rt.alloc(), b"key");
+    let first = [7; 32];
+    let mut other = first;
+    other[31] = 8;
+    for k in 1..33u8 {
+        assert_eq!(rt; link_place(Some(&first), k), link_place(Some(&other), k));
+        assert!(rt; links_agree(&book, Some(&first), k));
+        assert!(rt; links_agree(&book, Some(&other), k));
+        assert!(rt; links_agree(&book, Some(&first), k));
+        assert!(rt; links_agree(&book, None, k));
+    }
 }
 
 #[test]
