@@ -61,7 +61,7 @@ pub fn hashed_under(
             return Ok(inputs);
         }
         inputs.push(chain_input(alloc, walk.digest, tuple.client)?)?;
-        walk.advance(tuple.client);
+        walk.advance(key, tuple.client);
     }
     inputs.push(chain_input(alloc, walk.digest, me)?)?;
     put_part(alloc, key, &reply.read, &mut inputs)?;

@@ -62,7 +62,7 @@ pub fn judge_under(
 {
     check_base(alloc, key, me, own, op, reply)?;
     let mut walk = walked(key, me, reply)?;
-    walk.advance(me);
+    walk.advance(key, me);
     answered(
         alloc,
         key,

@@ -8,7 +8,7 @@ ghost use Rattle.faust_ustor.specs.Checks.{advanced, begun, broken_tuple, walked
 use crate::refusal::JudgeError;
 use crate::tags::{is_next_submitted, is_proven};
 use crate::verdict::demand;
-use faust_hash::{PreparedKey, chain};
+use faust_hash::PreparedKey;
 use faust_types::{Digest, OutOfMemory, Reply, Tag, Tuple, Version};
 
 /// How far the walk over the pending tuples of a reply came: the version of the operations so far, and the
@@ -32,13 +32,14 @@ impl Walk {
         })
     }
 
-    /// One more operation of client k, from 1 to n, whose timestamp is below 2^40 - 1.
-    pub fn advance(&mut self, k: u8)
+    /// One more operation of client k, from 1 to n, whose timestamp is below 2^40 - 1. The key may remember the digest
+    /// of its chain.
+    pub fn advance(&mut self, key: &PreparedKey, k: u8)
         requires client { IsClient (clients_of self.old.version) k }
         requires room { timestamp_at self.old.version k + 1 < 2 ^ 40 }
         ensures { self.new ≡ advanced self.old k }
     {
-        let digest = chain(self.digest.as_ref(), k);
+        let digest = key.chain(self.digest.as_ref(), k);
         self.version.step(k, digest);
         self.digest = Some(digest);
     }
@@ -93,7 +94,7 @@ pub fn walked(key: &PreparedKey, me: u8, reply: &Reply) -> Result<Walk, JudgeErr
     let mut walk = Walk::begin(reply)?;
     for (before, tuple) in reply.pending.as_slice().iter().enumerate() {
         walk.check(key, me, reply.proofs.as_slice(), before as u32 + 1, tuple)?;
-        walk.advance(tuple.client);
+        walk.advance(key, tuple.client);
     }
     Ok(walk)
 }

@@ -2,7 +2,7 @@ ghost use Rattle.faust_types.specs.Clients.{IsClientCount};
 
 use super::in_range::is_client;
 use crate::walk::Walk;
-use faust_hash::value_digest;
+use faust_hash::{PreparedKey, value_digest};
 use faust_tags::{commit_tag, data_tag, proof_tag, submit_tag};
 use faust_types::{
     Bytes, Digest, Kind, Known, MAX_TIMESTAMP, Mem, OutOfMemory, Proofs, ReadPart, Reply, Sequence,
@@ -93,19 +93,20 @@ pub const HONEST: Row = Row {
 pub fn walk_of(alloc: Global, n: u8, clients: &[u8]) -> Result<Walk, OutOfMemory>
     requires { IsClientCount n }
 {
+    let key = PreparedKey::new(KEY);
     let mut walk = Walk {
         version: Version::initial(alloc, n)?,
         digest: None,
     };
     for k in clients {
-        step(&mut walk, *k);
+        step(&key, &mut walk, *k);
     }
     Ok(walk)
 }
 
-fn step(walk: &mut Walk, k: u8) {
+fn step(key: &PreparedKey, walk: &mut Walk, k: u8) {
     if is_client(walk.version.clients(), k) && walk.version.at(k) < MAX_TIMESTAMP {
-        walk.advance(k);
+        walk.advance(key, k);
     }
 }
 
