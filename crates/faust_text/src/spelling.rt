@@ -103,11 +103,15 @@ fn worth(digit: u8) -> u8
     }
 }
 
-/// Whether all bytes may stand between quotation marks.
+/// Whether all bytes may stand between quotation marks. It looks at each byte, so that the processor takes many at once.
 pub(crate) fn is_all_plain(bytes: &[u8]) -> bool
     ensures { result ≡ list_all is_plain bytes.now }
 {
-    bytes.iter().all(|byte| is_plain(*byte))
+    let mut plain = true;
+    for byte in bytes {
+        plain &= is_plain(*byte);
+    }
+    plain
 }
 
 fn is_plain(byte: u8) -> bool
