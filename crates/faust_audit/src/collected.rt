@@ -81,7 +81,7 @@ impl Collected {
         let me = entry.client;
         let seen = watched.see(alloc, &mut self.book, me, entry, reply)?;
         let bodies = bodies_made(alloc, me, watched, &seen.moved, &entry.outcome)?;
-        let broken = hashed_at_break(alloc, key, me, watched, reply, entry.outcome.notice)?;
+        let broken = hashed_at_break(alloc, key, me, watched, reply, entry.outcome.notice())?;
         self.made.add_all(bodies)?;
         self.inputs.add_all(&seen.hashed)?;
         self.inputs.add_all(&broken)?;

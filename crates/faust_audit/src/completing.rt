@@ -70,7 +70,7 @@ impl Completed {
         };
         for q in 0..rec.len() {
             let entry = entry_at(rec, q);
-            completed.note(entry.client, entry.outcome.answer.as_ref())?;
+            completed.note(entry.client, entry.outcome.answer())?;
         }
         Ok(completed)
     }

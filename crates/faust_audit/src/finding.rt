@@ -1,4 +1,4 @@
-ghost use Rattle.std.specs.Prelude.{◌≡◌, length, is_none, is_some, IfOk};
+ghost use Rattle.std.specs.Prelude.{◌≡◌, length, is_none, is_some, option_copied, IfOk};
 ghost use Rattle.faust_record.specs.Runs.{arriving};
 ghost use Rattle.faust_record.specs.Operations.{started_among, started_in};
 ghost use Rattle.faust_audit.specs.Findings.{fact_of, facts_of, findings_of};
@@ -7,7 +7,7 @@ use crate::departing::departure;
 use crate::ordering::order;
 use crate::run_entry::entry_at;
 use faust_record::{Entry, Fact, Facts, Findings, Input, RunRecord, Views};
-use faust_types::{Answer, Cut, OutOfMemory};
+use faust_types::{Answer, Clients, Cut, OutOfMemory};
 use std::alloc::Global;
 
 /// All that a report of a run shows, beside the lists of operations that clients saw, which are handed in. The order
@@ -46,7 +46,7 @@ fn begins(entry: &Entry) -> bool
 {
     match &entry.input {
         Input::Write(_) | Input::Read(_) => true,
-        Input::Tick(_) => entry.outcome.began.is_some(),
+        Input::Tick(_) => entry.outcome.began().is_some(),
         Input::Reply(_) | Input::Peer(_) | Input::Arrive(_) => false,
     }
 }
@@ -60,7 +60,7 @@ fn facts(alloc: Global, rec: &RunRecord) -> Result<Facts, OutOfMemory>
     for q in 0..rec.len() {
         let entry = entry_at(rec, q);
         if is_act(entry) {
-            facts.push(fact_of(entry)?)?;
+            facts.push(fact_of(alloc, entry)?)?;
         }
     }
     Ok(facts)
@@ -79,23 +79,23 @@ fn is_act(entry: &Entry) -> bool
 }
 
 /// What an entry gave its client.
-fn fact_of(entry: &Entry) -> Result<Fact, OutOfMemory>
+fn fact_of(alloc: Global, entry: &Entry) -> Result<Fact, OutOfMemory>
     ensures { IfOk result (λ fact. fact ≡ fact_of entry.now) }
 {
-    let outcome = &entry.outcome;
+    let given = &entry.outcome;
     Ok(Fact {
         entry: entry.number,
         client: entry.client,
-        done: copy_of_answer(&outcome.answer)?,
-        cut: copy_of_cut(&outcome.cut)?,
-        probed: outcome.probed.copy()?,
-        dummy: outcome.began,
-        notice: outcome.notice,
+        done: copy_of_answer(given.answer())?,
+        cut: copy_of_cut(given.cut())?,
+        probed: Clients::from_slice(alloc, given.probed())?,
+        dummy: given.began(),
+        notice: given.notice(),
     })
 }
 
-fn copy_of_answer(answer: &Option<Answer>) -> Result<Option<Answer>, OutOfMemory>
-    ensures { IfOk result (λ copy. copy ≡ answer.now) }
+fn copy_of_answer(answer: Option<&Answer>) -> Result<Option<Answer>, OutOfMemory>
+    ensures { IfOk result (λ copy. copy ≡ option_copied answer.entry) }
 {
     match answer {
         None => Ok(None),
@@ -103,8 +103,8 @@ fn copy_of_answer(answer: &Option<Answer>) -> Result<Option<Answer>, OutOfMemory
     }
 }
 
-fn copy_of_cut(cut: &Option<Cut>) -> Result<Option<Cut>, OutOfMemory>
-    ensures { IfOk result (λ copy. copy ≡ cut.now) }
+fn copy_of_cut(cut: Option<&Cut>) -> Result<Option<Cut>, OutOfMemory>
+    ensures { IfOk result (λ copy. copy ≡ option_copied cut.entry) }
 {
     match cut {
         None => Ok(None),

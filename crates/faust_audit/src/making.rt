@@ -7,8 +7,9 @@ ghost use Rattle.faust_audit.specs.Watching.{IsMoveFor, begin_bodies, bodies_see
 
 use crate::answers::Bodies;
 use crate::watched::{Beginning, Move, Watched};
+use faust_record::Given;
 use faust_tags::{commit_body, data_body, proof_body, submit_body};
-use faust_types::{Bytes, OutOfMemory, Outcome, Post, Posts, Sequence, Version};
+use faust_types::{Bytes, OutOfMemory, Post, Sequence, Version};
 use std::alloc::Global;
 
 // How many bytes a tag has, and the bytes that a body of a message between clients begins with: its kind, and the
@@ -25,14 +26,14 @@ pub fn bodies_made(
     me: u8,
     watched: &Watched,
     moved: &Move,
-    outcome: &Outcome,
+    given: &Given,
 ) -> Result<Bodies, OutOfMemory>
     requires client { IsClient (clients_of watched.now.own) me }
     requires moved { IsMoveFor (clients_of watched.now.own) moved.now }
-    ensures { IfOk result (λ bodies. bodies ≡ bodies_seen me watched.now moved.now outcome.now) }
+    ensures { IfOk result (λ bodies. bodies ≡ bodies_seen me watched.now moved.now given.now) }
 {
     let mut out = Sequence::new(alloc);
-    put_posts(alloc, &outcome.to_peers, &mut out)?;
+    put_posts(alloc, given.to_peers(), &mut out)?;
     match moved {
         Move::Begins(begins) => put_begin(alloc, me, watched, begins, &mut out)?,
         Move::Completes(next) => put_completion(alloc, me, next, &mut out)?,
@@ -41,10 +42,10 @@ pub fn bodies_made(
     Ok(out)
 }
 
-fn put_posts(alloc: Global, posts: &Posts, out: &mut Bodies) -> Result<(), OutOfMemory>
+fn put_posts(alloc: Global, posts: &[Post], out: &mut Bodies) -> Result<(), OutOfMemory>
     ensures { OnOk result (out.new ≡ out.old ++ map post_body posts.now) }
 {
-    for post in posts.as_slice() {
+    for post in posts {
         out.push(post_body(alloc, post)?)?;
     }
     Ok(())

@@ -90,11 +90,11 @@ impl Watched {
                 let op = self.next_operation(me, Kind::Read, *register);
                 Ok(Seen::begins(alloc, op))
             }
-            Input::Reply(_) => match (reply, &entry.outcome.answer) {
+            Input::Reply(_) => match (reply, entry.outcome.answer()) {
                 (Some(reply), Some(_)) => complete(alloc, book, me, reply),
                 _ => Ok(Seen::nothing(alloc)),
             },
-            Input::Tick(_) => match entry.outcome.began {
+            Input::Tick(_) => match entry.outcome.began() {
                 Some(op) => Ok(Seen::begins(alloc, op)),
                 None => Ok(Seen::nothing(alloc)),
             },

@@ -63,6 +63,11 @@ pub posts-silent : (entries : List Entry) (k n : ℕ) (e : Entry) → slice_get 
 posts-silent entries k n e is none n_is =
     posts-first entries k n e is n_is ∙ ap (λ (l : List Post). l ++ posts_in (drop n entries)) none
 
+-- nothing was sent where there is no first
+pub none-first : (posts : List Post) → slice_get posts 0 ≡ None → posts ≡ []
+none-first [] none = refl
+none-first (post ∷ posts) none = absurd (cc)
+
 pub posts-past : (entries : List Entry) (k : ℕ) → length entries ≤ k → posts_in (drop k entries) ≡ []
 posts-past entries k past = ap posts_in (drop-past entries k past)
 

@@ -29,7 +29,7 @@ impl<T: Session> NodeCell<T> {
 fn receipt_of(entry: &Entry, op: Operation) -> Result<Option<Receipt>, OutOfMemory>
     ensures { IfOk result (GivesReceipt entry.now op) }
 {
-    match &entry.outcome.answer {
+    match entry.outcome.answer() {
         Some(answer) => {
             if !is_answer_to(answer, op) {
                 return Ok(None);

@@ -6,6 +6,7 @@ use crate::cell::NodeCell;
 use crate::session::Session;
 use faust_record::Entry;
 use faust_types::{Bytes, OutOfMemory, Post, Posts};
+use std::alloc::Global;
 
 /// A message to the server, and the place behind the entry that sent it.
 #[derive(Debug, Drop)]
@@ -37,7 +38,7 @@ impl<T: Session> NodeCell<T> {
     {
         for place in from..self.journal().len() {
             if let Some(entry) = self.entry(place) {
-                if let Some(bytes) = &entry.outcome.to_server {
+                if let Some(bytes) = entry.outcome.to_server() {
                     return Ok(Some(Dispatch {
                         bytes: bytes.copy()?,
                         behind: place + 1,
@@ -54,10 +55,11 @@ impl<T: Session> NodeCell<T> {
     {
         for at in from..self.journal().len() {
             if let Some(entry) = self.entry(at) {
-                let posts = &entry.outcome.to_peers;
-                if !posts.is_empty() {
+                let posts = entry.outcome.to_peers();
+                if let Some(first) = posts.first() {
+                    let alloc = first.bytes.allocator();
                     return Ok(Some(Batch {
-                        posts: copy_of(posts)?,
+                        posts: copy_of(alloc, posts)?,
                         behind: at + 1,
                     }));
                 }
@@ -67,12 +69,12 @@ impl<T: Session> NodeCell<T> {
     }
 }
 
-fn copy_of(posts: &Posts) -> Result<Posts, OutOfMemory>
+fn copy_of(alloc: Global, posts: &[Post]) -> Result<Posts, OutOfMemory>
     ensures { IfOk result (λ copy. copy ≡ posts.now) }
 {
-    let mut copies = Posts::new(posts.allocator());
+    let mut copies = Posts::new(alloc);
     copies.reserve(posts.len())?;
-    for post in posts.as_slice() {
+    for post in posts {
         copies.push(Post {
             to: post.to,
             bytes: post.bytes.copy()?,

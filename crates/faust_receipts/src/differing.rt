@@ -72,7 +72,7 @@ fn told_in(entry: &Entry, client: u64) -> Option<&Answer>
     if u64::from(entry.client) != client {
         return None;
     }
-    match &entry.outcome.answer {
+    match entry.outcome.answer() {
         Some(answer) if !answer.op.dummy => Some(answer),
         _ => None,
     }

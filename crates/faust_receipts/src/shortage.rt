@@ -57,7 +57,7 @@ fn has_notice(rec: &RunRecord, client: u64) -> bool
 {
     for q in 0..rec.len() {
         let entry = entry_at(rec, q);
-        if u64::from(entry.client) == client && entry.outcome.notice.is_some() {
+        if u64::from(entry.client) == client && entry.outcome.notice().is_some() {
             return true;
         }
     }

@@ -1,3 +1,4 @@
+pub mod Given
 pub mod Entries
 pub mod Runs
 pub mod Operations

@@ -6,6 +6,7 @@ ghost use Rattle.faust_record.specs.Acting.{Acts, AreInputBytes, Happens};
 
 use crate::entry::{Entry, Input};
 use crate::errors::Refusal;
+use crate::given::Room;
 use faust_agent::Agent;
 use faust_types::{MAX_VALUE_LEN, OutOfMemory, Outcome, Sequence};
 use std::alloc::Global;
@@ -26,7 +27,8 @@ pub fn act(
     }
     let alloc = entries.allocator();
     let place = entries.len();
-    entries.push(Entry::blank(alloc))?;
+    let room = Room::new(alloc)?;
+    entries.push(Entry::blank())?;
     match happen(alloc, agent, &input) {
         Ok(outcome) => {
             let sends = outcome.to_server.is_some();
@@ -34,7 +36,7 @@ pub fn act(
                 number,
                 client: agent.me(),
                 input,
-                outcome,
+                outcome: room.filled(outcome),
             };
             entries.set(place, entry);
             Ok(sends)

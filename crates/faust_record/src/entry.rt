@@ -1,7 +1,7 @@
 ghost use Rattle.std.specs.Prelude.{◌≡◌};
 
-use faust_types::{Bytes, Outcome};
-use std::alloc::Global;
+use crate::given::Given;
+use faust_types::Bytes;
 
 /// What comes to a client of a run: its user begins to write a value or to read a register, bytes come as a reply of
 /// the server or as a message of another client, or a moment comes. `Arrive` is the server's: this message of the
@@ -23,17 +23,17 @@ pub struct Entry {
     pub number: u64,
     pub client: u8,
     pub input: Input,
-    pub outcome: Outcome,
+    pub outcome: Given,
 }
 
 impl Entry {
     /// An entry that holds a place for another one. It takes no memory.
-    pub(crate) fn blank(alloc: Global) -> Entry {
+    pub(crate) fn blank() -> Entry {
         Entry {
             number: 0,
             client: 0,
             input: Input::Tick(0),
-            outcome: Outcome::nothing(alloc),
+            outcome: Given::nothing(),
         }
     }
 }

@@ -30,7 +30,7 @@ impl RunRecord {
             return Err(stranger);
         }
         let mut entries = room_for(alloc, &journals, &arrivals)?;
-        put_arrivals(alloc, arrivals, &mut entries);
+        put_arrivals(arrivals, &mut entries);
         let agents = put_journals(alloc, journals, &mut entries)?;
         let outboxes = feed(alloc, config.clients, &entries)?;
         Ok(RunRecord::from_parts(config, agents, outboxes, entries))

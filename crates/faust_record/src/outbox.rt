@@ -63,7 +63,7 @@ impl Outbox {
     pub fn note(&mut self, entry: &Entry, place: usize) -> Result<(), OutOfMemory>
         ensures { OnOk result (self.new ≡ sent_after self.old place entry.now.outcome.to_server) }
     {
-        if entry.outcome.to_server.is_some() {
+        if entry.outcome.to_server().is_some() {
             self.sent.push(place)?;
         }
         Ok(())
@@ -79,7 +79,7 @@ impl Outbox {
             return None;
         }
         let place = *self.sent.at(self.arrived);
-        entries.at(place).outcome.to_server.as_ref()
+        entries.at(place).outcome.to_server()
     }
 
     /// The next message arrives.

@@ -5,9 +5,10 @@ ghost use Rattle.faust_record.specs.Merging.{entry_of, gathered, logged_in};
 ghost use Rattle.faust_record.specs.Placing.{AreBelow, placed};
 
 use crate::entry::{Entry, Input};
+use crate::given::Given;
 use crate::journal::{Journal, Journals};
 use faust_agent::Agent;
-use faust_types::{Arrival, Arrivals, OutOfMemory, Outcome, Sequence};
+use faust_types::{Arrival, Arrivals, OutOfMemory, Sequence};
 use std::alloc::Global;
 
 /// A place for each entry of the journals and for each arrival.
@@ -20,18 +21,18 @@ pub fn room_for(
 {
     let mut table = Sequence::new(alloc);
     for before in 0..journals.len() {
-        add_blanks(alloc, &mut table, journals.at(before).len() as usize)?;
+        add_blanks(&mut table, journals.at(before).len() as usize)?;
     }
-    add_blanks(alloc, &mut table, arrivals.len())?;
+    add_blanks(&mut table, arrivals.len())?;
     Ok(table)
 }
 
-fn add_blanks(alloc: Global, table: &mut Sequence<Entry>, more: usize) -> Result<(), OutOfMemory>
+fn add_blanks(table: &mut Sequence<Entry>, more: usize) -> Result<(), OutOfMemory>
     ensures { OnOk result (length table.new ≡ length table.old + more) }
 {
     table.reserve(more)?;
     for _ in 0..more {
-        table.push(Entry::blank(alloc))?;
+        table.push(Entry::blank())?;
     }
     Ok(())
 }
@@ -48,7 +49,7 @@ pub fn put_entries(entries: Sequence<Entry>, table: &mut Sequence<Entry>)
 }
 
 /// Puts arrivals in their places.
-pub fn put_arrivals(alloc: Global, arrivals: Arrivals, table: &mut Sequence<Entry>)
+pub fn put_arrivals(arrivals: Arrivals, table: &mut Sequence<Entry>)
     requires { AreBelow (length table.old) (map entry_of arrivals) }
     ensures { table.new ≡ placed table.old (map entry_of arrivals) }
 {
@@ -63,7 +64,7 @@ pub fn put_arrivals(alloc: Global, arrivals: Arrivals, table: &mut Sequence<Entr
             number,
             client,
             input: Input::Arrive(message),
-            outcome: Outcome::nothing(alloc),
+            outcome: Given::nothing(),
         };
         table.set(number as usize, entry);
     }

@@ -8,9 +8,10 @@ ghost use Rattle.faust_record.specs.Refusals.{IsInput, IsPushInput, Pushes, acte
 use crate::entry::{Entry, Input};
 use crate::errors::PushError;
 use crate::first::{first_agents, first_outboxes};
+use crate::given::Given;
 use crate::outbox::Outbox;
 use faust_agent::Agent;
-use faust_types::{Bytes, Config, OutOfMemory, Outcome, Sequence};
+use faust_types::{Bytes, Config, OutOfMemory, Sequence};
 use std::alloc::Global;
 use std::marker::Model;
 
@@ -108,7 +109,7 @@ impl RunRecord {
             number: self.entries.len() as u64,
             client,
             input: Input::Arrive(message),
-            outcome: Outcome::nothing(self.entries.allocator()),
+            outcome: Given::nothing(),
         };
         self.entries.push(entry)?;
         self.outboxes[k].take_next();

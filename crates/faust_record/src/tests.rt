@@ -163,7 +163,7 @@ fn a_journal_refuses_in_order(rt: HostRuntime) -> Result<(), Fail> {
     assert_eq!(rt; journal.agent().notice(), Some(BROKEN));
     assert_eq!(rt; journal.last().ok_or("no entry")?.number, 8);
     assert_eq!(rt;
-        journal.entry(2).ok_or("no entry")?.outcome.notice,
+        journal.entry(2).ok_or("no entry")?.outcome.notice(),
         Some(BROKEN)
     );
     assert!(rt; journal.entry(4).is_none());
@@ -211,7 +211,7 @@ fn message_of(record: &RunRecord, q: u64) -> &[u8] {
 fn sent_at(record: &RunRecord, q: u64) -> &[u8] {
     match record.entry(q) {
         None => &[],
-        Some(entry) => match &entry.outcome.to_server {
+        Some(entry) => match entry.outcome.to_server() {
             Some(message) => message.as_slice(),
             None => &[],
         },
@@ -270,7 +270,7 @@ fn a_commit_rides_and_is_released_by_a_tick(rt: HostRuntime) -> Result<(), Fail>
     assert!(rt; was_sent(alloc, &record, 6, COMMIT_OF_B)?);
     let tick = record.entry(6).ok_or("no entry")?;
     assert_eq!(rt; tick.number, 6);
-    assert!(rt; tick.outcome.probed.as_slice() == [2].as_slice());
+    assert!(rt; tick.outcome.probed() == [2].as_slice());
     assert!(rt; record.entry(8).is_none());
     Ok(())
 }

@@ -1,7 +1,7 @@
 ghost use Rattle.std.specs.Prelude.{◌≡◌, ◌-◌, ◌≤◌, [], length, replicate, slice_get, IfOk, OnOk};
 ghost use Rattle.faust_types.specs.Clients.{IsClient};
 
-use faust_types::{OutOfMemory, Posts, Sequence};
+use faust_types::{OutOfMemory, Post, Sequence};
 use std::alloc::Global;
 use std::marker::Model;
 
@@ -43,12 +43,12 @@ impl Letters {
     }
 
     /// Takes the places of what an entry sent.
-    pub fn note(&mut self, entry: u64, posts: &Posts) -> Result<(), OutOfMemory>
+    pub fn note(&mut self, entry: u64, posts: &[Post]) -> Result<(), OutOfMemory>
         requires { AreToClients (length self.old) posts.now }
         ensures { OnOk result (self.new ≡ noted_from self.old entry 0 posts.now) }
     {
         for index in 0..posts.len() {
-            let to = posts.at(index).to;
+            let to = posts[index].to;
             self.put(to, Place { entry, index })?;
         }
         Ok(())

@@ -51,7 +51,7 @@ impl Mail {
             return Ok(());
         };
         let sender = usize::from(entry.client) - 1;
-        self.letters[sender].note(number, &entry.outcome.to_peers)
+        self.letters[sender].note(number, entry.outcome.to_peers())
     }
 
     /// The k-th message that client i sent to client j, from 1 on: none exactly where there is none.
@@ -74,6 +74,6 @@ fn letter_at(run: &RunRecord, place: Place) -> Option<&Bytes>
     ensures { option_copied result ≡ letter_at run.now.entries place }
 {
     let entry = run.entry(place.entry)?;
-    let post = entry.outcome.to_peers.as_slice().get(place.index)?;
+    let post = entry.outcome.to_peers().get(place.index)?;
     Some(&post.bytes)
 }

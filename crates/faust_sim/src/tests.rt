@@ -31,14 +31,14 @@ fn played(alloc: Global, head: &str, front: &str, events: &str) -> Result<RunRec
 /// Whether an operation completes in entry q.
 fn completes(run: &RunRecord, q: u64) -> bool {
     match run.entry(q) {
-        Some(entry) => entry.outcome.answer.is_some(),
+        Some(entry) => entry.outcome.answer().is_some(),
         None => false,
     }
 }
 
 /// The notice that the last entry gives.
 fn last_notice(run: &RunRecord) -> Option<Notice> {
-    run.entry(run.len().checked_sub(1)?)?.outcome.notice
+    run.entry(run.len().checked_sub(1)?)?.outcome.notice()
 }
 
 fn broken(check: u8, place: u32) -> Option<Notice> {

@@ -60,7 +60,7 @@ impl Forest {
         let Input::Reply(bytes) = &entry.input else {
             return Ok(());
         };
-        let Some(answer) = &entry.outcome.answer else {
+        let Some(answer) = entry.outcome.answer() else {
             return Ok(());
         };
         match read_reply(alloc, config, bytes.as_slice())? {

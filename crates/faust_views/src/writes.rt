@@ -19,7 +19,7 @@ fn kind_of(entry: &Entry) -> Option<bool>
     match &entry.input {
         Input::Write(_) => Some(true),
         Input::Read(_) => Some(false),
-        Input::Tick(_) => entry.outcome.began.map(|_| false),
+        Input::Tick(_) => entry.outcome.began().map(|_| false),
         Input::Reply(_) | Input::Peer(_) | Input::Arrive(_) => None,
     }
 }

@@ -16,7 +16,7 @@ returns-in-Ok c =
       may_come = may-come old.config old.me old.client c.args.input taken c.requires c.in-Ok.ensures.bytes;
       sends_is = c.is_some-sends.ensures ∙ ap (λ (o : Outcome). is_some o.to_server) happened.1;
       appended = put-entry c.args.entries.now c.push.new.self c.set.new.self c.blank.result c.len-place.result c.args.number c.me.result
-          old c.happen.new.agent c.args.input c.in-Ok.outcome c.in_ok-push.ensures.ok c.len-place.ensures c.set.ensures c.me.ensures
-          happened.0 happened.1;
+          old c.happen.new.agent c.args.input c.filled.result c.in_ok-push.ensures.ok c.len-place.ensures c.set.ensures c.me.ensures
+          happened.0 (c.filled.ensures ∙ happened.1);
       moved = happened.0;
     }

@@ -25,6 +25,6 @@ loop-q-preserved c =
     let client : IsClient rec.config.clients e.client =
     client-read rec.config rec.config rec.entries q e refl c.config.ensures.kept inside c.entry_at-entry.ensures in
     let now : c.note.new.self ≡ completed_with c.loop-q.completed e.client e.outcome.answer =
-    c.in_ok-note.ensures ∙ ap (λ answer. completed_with c.loop-q.completed e.client answer) c.as_ref.ensures.value in
+    c.in_ok-note.ensures ∙ ap (λ answer. completed_with c.loop-q.completed e.client answer) c.answer.ensures in
     subst (AreCompleted rec.config.clients _) (sym now)
     (completed-next rec.config.clients rec.entries q e c.loop-q.completed at client c.loop-q.invariant)

@@ -1,4 +1,4 @@
-use Rattle.std.proofs.Common.{◌≡◌, ◌+◌, ◌<◌, ℕ, List, length, Option, Some, IfSome, slice_get, refl, sym, ap, ◌∙◌, subst, arith}
+use Rattle.std.proofs.Common.{◌≡◌, ◌+◌, ◌<◌, ℕ, List, length, Option, Some, IfSome, slice_get, refl, sym, ap, ◌∙◌, subst, option_copied, arith}
 use Rattle.faust_link.specs.Frames.{IsFrame}
 use Rattle.faust_record.specs.Journals.{Log}
 use Rattle.faust_record.specs.declared.entry.Entry.{Entry}
@@ -13,7 +13,7 @@ returns-in-Some-to_server g c =
     let e : Entry = c.in-Some.entry.now in
     let stands : slice_get entries place ≡ Some e = sym c.in-Some.ensures.entry in
     let sent : e.outcome.to_server ≡ Some c.in_ok-copy.field-0 =
-    c.in-Some-to_server.is ∙ ap (λ (b : List ℕ). Some b) (sym c.in_ok-copy.ensures) in
+    sym c.to_server.ensures ∙ ap option_copied c.in-Some-to_server.is ∙ ap (λ (b : List ℕ). Some b) (sym c.in_ok-copy.ensures) in
     record {
       later = omega (arith, c.loop-place.auto.place);
       first = c.loop-place.invariant ∙ sent-first entries place (place + 1) e c.in_ok-copy.field-0 stands sent refl;
@@ -30,6 +30,6 @@ loop-place-preserved g c =
     elim c.match-entry.branch [
       | in-Some+in_default-to_server w ↦
           c.loop-place.invariant
-          ∙ sent-silent entries place (place + 1) w.in-Some.entry.now (sym w.in-Some.ensures.entry) w.in_default-to_server.is refl
+          ∙ sent-silent entries place (place + 1) w.in-Some.entry.now (sym w.in-Some.ensures.entry) (sym w.to_server.ensures ∙ ap option_copied w.in_default-to_server.is) refl
       | in_default w ↦ absurd (stands-within entries place inside (sym w.in_default.ensures.entry))
     ]
