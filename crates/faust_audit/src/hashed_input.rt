@@ -12,6 +12,9 @@ const CHAIN: u8 = 0x10;
 
 const VALUE: u8 = 0x11;
 
+// The most bytes of the input of a chain: the first one, a digest and a client.
+const MAX_LINK_LEN: usize = 34;
+
 /// An input that was hashed, and its digest, so that nobody hashes it once more. Clauses see the input.
 #[derive(Debug, Drop)]
 pub struct Hashed {
@@ -78,6 +81,7 @@ pub fn value_input(alloc: Global, value: &[u8]) -> Result<Bytes, OutOfMemory>
     ensures { IfOk result (λ input. input ≡ value_input value.now) }
 {
     let mut input = Bytes::new(alloc);
+    input.reserve(1 + value.len())?;
     input.push(VALUE)?;
     input.append(value)?;
     Ok(input)
@@ -88,6 +92,7 @@ pub fn chain_input(alloc: Global, before: Option<Digest>, k: u8) -> Result<Bytes
     ensures { IfOk result (λ input. input ≡ chain_input before k) }
 {
     let mut input = Bytes::new(alloc);
+    input.reserve(MAX_LINK_LEN)?;
     input.push(CHAIN)?;
     if let Some(digest) = before {
         input.append(&digest)?;
