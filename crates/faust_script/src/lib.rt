@@ -1,12 +1,12 @@
-// Scripts as text: `parse` answers exactly the script that the bytes are, or the first line that breaks the grammar,
-// with its cause. `generate` makes the script of a seed, a number of clients and a number of operations.
-//
-// `specs/Forms.antt` comes first: each event and each edit is a word and its fields. `specs/Parsing.antt` has the
-// machine over lines, whose fold is `parsed`. `specs/Scripts.antt` says in other words which bytes are a script's text,
-// `specs/Refusals.antt` which line is refused and why, and `specs/InRange.antt` which scripts are in range, as all that
-// are read are. `specs/Words.antt` has the words. `specs/Generated.antt` has the generated script.
-//
-// What an event does when it is played is not said here.
+//! Scripts as text: `parse` answers exactly the script that the bytes are, or the first line that breaks the grammar,
+//! with its cause. `generate` makes the script of a seed, a number of clients and a number of operations.
+//!
+//! `specs/Forms.antt` comes first: each event and each edit is a word and its fields. `specs/Parsing.antt` has the
+//! machine over lines, whose fold is `parsed`. `specs/Scripts.antt` says in other words which bytes are a script's text,
+//! `specs/Refusals.antt` which line is refused and why, and `specs/InRange.antt` which scripts are in range, as all that
+//! are read are. `specs/Words.antt` has the words. `specs/Generated.antt` has the generated script.
+//!
+//! What an event does when it is played is not said here.
 #![tactic(auto)]
 
 mod edit;

@@ -1,13 +1,13 @@
-// Texts as bytes: lines and tokens with their places, numbers, values and hexadecimal bytes as tokens, the fields of a
-// line, the head that the texts of runs share, the causes why a line is refused, and the printed forms. What is read is
-// exactly what the grammar says, and what is printed is read again.
-//
-// `specs/Lines.antt` comes first: what the lines of an input are. `specs/Tokens.antt` says what the tokens of a line
-// are, `specs/Numbers.antt` and `specs/Values.antt` which tokens are numbers, values and bytes, `specs/Fields.antt` what
-// a token means in a field or why it is refused there, `specs/Spelled.antt` the same in other words, `specs/Heads.antt`
-// what the lines of a head are, and `specs/Causes.antt` has the words of the causes.
-//
-// Which lines a text may have behind its head is not said here: that is a matter of each text's own crate.
+//! Texts as bytes: lines and tokens with their places, numbers, values and hexadecimal bytes as tokens, the fields of a
+//! line, the head that the texts of runs share, the causes why a line is refused, and the printed forms. What is read is
+//! exactly what the grammar says, and what is printed is read again.
+//!
+//! `specs/Lines.antt` comes first: what the lines of an input are. `specs/Tokens.antt` says what the tokens of a line
+//! are, `specs/Numbers.antt` and `specs/Values.antt` which tokens are numbers, values and bytes, `specs/Fields.antt` what
+//! a token means in a field or why it is refused there, `specs/Spelled.antt` the same in other words, `specs/Heads.antt`
+//! what the lines of a head are, and `specs/Causes.antt` has the words of the causes.
+//!
+//! Which lines a text may have behind its head is not said here: that is a matter of each text's own crate.
 #![tactic(auto)]
 
 mod cause;
