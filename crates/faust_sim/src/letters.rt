@@ -1,5 +1,6 @@
-ghost use Rattle.std.specs.Prelude.{◌≡◌, ◌-◌, ◌≤◌, [], length, replicate, slice_get, IfOk, OnOk};
+ghost use Rattle.std.specs.Prelude.{◌≡◌, ◌-◌, ◌<◌, ◌≤◌, [], length, replicate, slice_get, slice_index_or, IfOk, OnOk};
 ghost use Rattle.faust_types.specs.Clients.{IsClient};
+ghost use Rattle.faust_types.specs.declared.outcome.Post.{Post};
 
 use faust_types::{OutOfMemory, Post, Sequence};
 use std::alloc::Global;
@@ -48,7 +49,7 @@ impl Letters {
         ensures { OnOk result (self.new ≡ noted_from self.old entry 0 posts.now) }
     {
         for index in 0..posts.len() {
-            let to = posts[index].to;
+            let to = at(posts, index).to;
             self.put(to, Place { entry, index })?;
         }
         Ok(())
@@ -72,4 +73,11 @@ impl Letters {
             .get(k - 1)
             .copied()
     }
+}
+
+fn at(posts: &[Post], index: usize) -> &Post
+    requires { index < length posts.now }
+    ensures { (d : Post) → result.now ≡ slice_index_or posts.now index d }
+{
+    &posts[index]
 }

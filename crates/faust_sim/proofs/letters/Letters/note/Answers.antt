@@ -8,7 +8,7 @@ pub put-requires : goal.put-requires
 put-requires c =
     let posts = c.args.posts.now in
     let index = c.loop-index.index in
-    let inside : index < length posts = omega (arith, c.loop-index-test.true, c.len-index-end.ensures) in
+    let inside : index < length posts = omega (arith, c.loop-index-test.true) in
     (note-client (length c.loop-index.self) posts index c.at.result.now blank-post inside (c.at.ensures blank-post)
     c.loop-index.invariant.clients).0
 
@@ -16,7 +16,7 @@ pub loop-index-preserved : goal.loop-index-preserved
 loop-index-preserved c =
     let posts = c.args.posts.now in
     let index = c.loop-index.index in
-    let inside : index < length posts = omega (arith, c.loop-index-test.true, c.len-index-end.ensures) in
+    let inside : index < length posts = omega (arith, c.loop-index-test.true) in
     let rest = (note-client (length c.loop-index.self) posts index c.at.result.now blank-post inside (c.at.ensures blank-post)
     c.loop-index.invariant.clients).1 in
     let place = place_at c.args.entry index in

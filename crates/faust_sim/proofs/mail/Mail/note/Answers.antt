@@ -1,7 +1,8 @@
-use Rattle.std.proofs.Common.{◌≡◌, ◌-◌, ℕ, List, get_or, sym, subst, arith}
-use Rattle.std.specs.Prelude.{slice_set}
+use Rattle.std.proofs.Common.{◌≡◌, ◌-◌, ℕ, List, length, get_or, sym, subst, arith}
+use Rattle.std.specs.Prelude.{OnOk, slice_set}
 use Rattle.std.proofs.lemmas.Result.{on_ok_weaker}
-use Rattle.faust_sim.specs.Kept.{AreToClients, IsMailBefore, IsMailOf}
+use Rattle.faust_types.specs.declared.outcome.Post.{Post}
+use Rattle.faust_sim.specs.Kept.{AreToClients, IsMailBefore, IsMailOf, noted_from}
 use Rattle.faust_sim.specs.declared.letters.Place.{Place}
 use Rattle.faust_sim.proofs.Noted.{last-of, noted-last}
 use Rattle.faust_sim.proofs.Places.{lists-sized}
@@ -34,8 +35,9 @@ note-requires c =
     let lists = c.index_mut.result.now in
     let read : lists ≡ get_or mail (e.client - 1) lists =
     subst (λ (k : ℕ). lists ≡ get_or mail (k - 1) lists) c.from-sender.ensures c.index_mut.ensures.value in
-    subst (λ (n : ℕ). AreToClients n e.outcome.to_peers)
-    (sym (lists-sized run.config.clients mail last.front e.client lists last.of_front last.client read)) last.posts
+    subst (λ (posts : List Post). AreToClients (length lists) posts) (sym c.to_peers.ensures)
+    (subst (λ (n : ℕ). AreToClients n e.outcome.to_peers)
+    (sym (lists-sized run.config.clients mail last.front e.client lists last.of_front last.client read)) last.posts)
 
 pub returns-clause-mail : goal.returns-clause-mail
 returns-clause-mail c =
@@ -51,4 +53,6 @@ returns-clause-mail c =
     let read : lists ≡ get_or mail (e.client - 1) lists =
     subst (λ (k : ℕ). lists ≡ get_or mail (k - 1) lists) c.from-sender.ensures c.index_mut.ensures.value in
     on_ok_weaker c.note.result (λ noted. subst (λ (k : ℕ). IsMailOf n (slice_set mail (k - 1) now) run.entries) (sym c.from-sender.ensures)
-    (noted-last run mail c.len-number.result e lists now last read noted)) c.note.ensures
+    (noted-last run mail c.len-number.result e lists now last read noted))
+    (subst (λ (posts : List Post). OnOk c.note.result (now ≡ noted_from lists (c.len-number.result - 1) 0 posts)) c.to_peers.ensures
+    c.note.ensures)
