@@ -1,22 +1,23 @@
 -- The words of a live run: the function that reads them, and the facts that say the same.
-use Rattle.std.proofs.Common.{◌≡◌, ◌≢◌, ℕ, ◌^◌, ◌<◌, ◌≤◌, Bool, true, false, cond, leb, ◌&&◌, List, [], ◌∷◌, length, map, Option, Some, None, Result, Ok, Err, IfOk, IfSome, refl, sym, ap, ◌∙◌, subst, inl, inr, ◌⊎◌, arith}
+use Rattle.std.proofs.Common.{◌≡◌, ◌≢◌, ℕ, ◌^◌, ◌<◌, ◌≤◌, cond, List, [], ◌∷◌, length, map, Option, Some, None, Result, Ok, Err, IfOk, IfSome, refl, sym, ap, ◌∙◌, subst, inl, inr, arith}
 use Rattle.std.specs.Prelude.{codes, IfNone}
 use Rattle.std.specs.Fmt.{decimal}
 use Rattle.std.specs.Str.{bytes_eq}
-use Rattle.std.proofs.lemmas.Bool.{cond-true, and_parts, and_from, leb-true, le-leb}
 use Rattle.std.proofs.lemmas.Slice.Eq.{bytes_eq-Decides}
 use Rattle.hex.specs.Hex.{encode_lower}
 use Rattle.faust_types.specs.Bytes.{AreBytes, IsKey}
 use Rattle.faust_types.specs.Ranges.{IsConfig}
 use Rattle.faust_types.specs.declared.out_of_memory.OutOfMemory.{OutOfMemory}
-use Rattle.faust_text.specs.Numbers.{number_of}
+use Rattle.faust_text.specs.Numbers.{between, number_between, number_of}
 use Rattle.faust_text.specs.Values.{hex_of}
+use Rattle.faust_text.proofs.Between.{between_from, between_parts}
+use Rattle.faust_text.proofs.Choices.{chosen}
 use Rattle.faust_text.proofs.NumberLaws.{numbers_are}
 use Rattle.faust_text.proofs.ValueLaws.{hex-are}
 use Rattle.faust_outcome.specs.declared.words.Detail.{Detail}
 use Rattle.faust_outcome.specs.declared.words.Detail.TheVariants.{Short, Full}
 use Rattle.faust_outcome.specs.declared.words.LiveCommand.{LiveCommand}
-use Rattle.faust_outcome.specs.Forms.{between, command_of, command_with, detail_of, key_of, live_command, not_empty, number_between}
+use Rattle.faust_outcome.specs.Forms.{command_of, command_with, detail_of, key_of, live_command, not_empty}
 use Rattle.faust_outcome.specs.Words.{IsForm, IsInRange, IsNoForm, config_of, detail_word, words_of}
 
 -- Five words, and any other number of them.
@@ -32,32 +33,6 @@ other_words f (a ∷ b ∷ c ∷ []) five = refl
 other_words f (a ∷ b ∷ c ∷ d ∷ []) five = refl
 other_words f (a ∷ b ∷ c ∷ d ∷ e ∷ []) five = absurd (five (omega arith))
 other_words f (a ∷ b ∷ c ∷ d ∷ e ∷ g ∷ rest) five = refl
-
--- A choice that was made.
-chosen : {A : Type 0} (b : Bool) (x y z : A) → cond b x y ≡ z → ((b ≡ true) × (x ≡ z)) ⊎ ((b ≡ false) × (y ≡ z))
-chosen true x y z found = inl (refl, found)
-chosen false x y z found = inr (refl, found)
-
--- Numbers.
-record IsBetween (low high : ℕ) (o : Option ℕ) (x : ℕ) : Type 0 where
-  given : o ≡ Some x
-  from : low ≤ x
-  to : x ≤ high
-
-between_parts : (low high : ℕ) (o : Option ℕ) (x : ℕ) → between low high o ≡ Some x → IsBetween low high o x
-between_parts low high None x found = absurd (cc)
-between_parts low high (Some y) x found =
-    elim (chosen (leb low y && leb y high) (Some y) None (Some x) found) [
-      | inl taken ↦
-          let parts : (leb low y ≡ true) × (leb y high ≡ true) = and_parts _ _ taken.0 in
-          let same : y ≡ x = let e = taken.1 in cc in
-          subst (λ z. IsBetween low high (Some y) z) same (record { given = refl; from = leb-true _ _ parts.0; to = leb-true _ _ parts.1 })
-      | inr left ↦ absurd (let e = left.1 in cc)
-    ]
-
-between_from : (low high x : ℕ) → low ≤ x → x ≤ high → between low high (Some x) ≡ Some x
-between_from low high x from to =
-    cond-true (leb low x && leb x high) (Some x) None (and_from _ _ (le-leb _ _ from) (le-leb _ _ to))
 
 -- Keys.
 not_empty-parts : (o : Option (List ℕ)) (key : List ℕ) → not_empty o ≡ Some key → (o ≡ Some key) × (1 ≤ length key)

@@ -1,18 +1,11 @@
 -- The command of words, as a function. No promise rests on this: `specs/Words.antt` says the same as facts.
-use Rattle.std.specs.Prelude.{ℕ, nat_le, ◌&&◌, List, [], ◌∷◌, codes, Option, Some, None, if◌then◌else◌}
+use Rattle.std.specs.Prelude.{ℕ, List, [], ◌∷◌, codes, Option, Some, None, if◌then◌else◌}
 use Rattle.std.specs.Str.{bytes_eq}
-use Rattle.faust_text.specs.Numbers.{number_of}
+use Rattle.faust_text.specs.Numbers.{number_between}
 use Rattle.faust_text.specs.Values.{hex_of}
 use Rattle.faust_outcome.specs.declared.words.Detail.{Detail}
 use Rattle.faust_outcome.specs.declared.words.Detail.TheVariants.{Short, Full}
 use Rattle.faust_outcome.specs.declared.words.LiveCommand.{LiveCommand}
-
-abbrev pub between : ℕ → ℕ → Option ℕ → Option ℕ
-between low high None = None
-between low high (Some x) = if nat_le low x && nat_le x high then Some x else None
-
-abbrev pub number_between : List ℕ → ℕ → ℕ → Option ℕ
-number_between word low high = between low high (number_of word)
 
 abbrev pub not_empty : Option (List ℕ) → Option (List ℕ)
 not_empty None = None

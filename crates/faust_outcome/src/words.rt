@@ -1,9 +1,9 @@
 ghost use Rattle.std.specs.Prelude.{◌≡◌, map, string_bytes, IfNone, IfOk, IfSome};
 ghost use Rattle.faust_types.specs.Ranges.{IsConfig};
-ghost use Rattle.faust_outcome.specs.Forms.{command_of, detail_of, key_of, live_command, number_between};
+ghost use Rattle.faust_outcome.specs.Forms.{command_of, detail_of, key_of, live_command};
 ghost use Rattle.faust_outcome.specs.Words.{IsForm, IsInRange, IsNoForm, config_of};
 
-use faust_text::{ValueError, hex_bytes, number};
+use faust_text::{ValueError, hex_bytes, number_between};
 use faust_types::{Bytes, Config, OutOfMemory};
 use std::alloc::Global;
 
@@ -118,13 +118,6 @@ impl Detail {
             None
         }
     }
-}
-
-fn number_between(word: &[u8], low: u64, high: u64) -> Option<u64>
-    ensures { result ≡ number_between word.now low high }
-{
-    let x = number(word)?;
-    if low <= x && x <= high { Some(x) } else { None }
 }
 
 /// The bytes of a key, of which there are 1 to 128.

@@ -16,6 +16,7 @@ use Rattle.faust_text.specs.Spelled.{SpellsFields}
 use Rattle.faust_text.proofs.FieldLaws.{bind_ok, field_spells, key_00}
 use Rattle.faust_text.proofs.HeadLaws.{head_step}
 use Rattle.faust_text.proofs.LineLaws.{has, lines_are, lines_of_ended_text}
+use Rattle.faust_text.proofs.WholeLines.{ended_line, ended_lines-append, whole_line-only}
 use Rattle.faust_script.specs.declared.error.ScriptError.{ScriptError}
 use Rattle.faust_script.specs.declared.error.ScriptError.TheVariants as errors
 use Rattle.faust_script.specs.declared.script.Script.{Script}
@@ -24,7 +25,7 @@ use Rattle.faust_script.specs.declared.stage.Stage.TheVariants as stages
 use Rattle.faust_script.specs.Parsing.{Parses, Refusal, empty_script, lines_from, parsed, script_form, stage_at, start, text_at}
 use Rattle.faust_script.specs.Refusals.{CanGoOn, IsAnswer, IsLineFault, IsRefused, IsRefusedThere, reached}
 use Rattle.faust_script.proofs.RefusalLaws.{lines_from-behind, refused_there, refusals_are}
-use Rattle.faust_script.proofs.LineSteps.{end_read, end_text, ended_found, ended_line, ended_lines-append, step_found, whole_line-only}
+use Rattle.faust_script.proofs.LineSteps.{end_read, end_text, ended_found, step_found}
 use Rattle.faust_script.proofs.ScriptLaws.{head_line_read, script_texts}
 use Rattle.faust_script.proofs.InRangeLaws.{script_in_range}
 

@@ -1,17 +1,19 @@
 -- The lines of a script, one by one.
-use Rattle.std.proofs.Common.{◌≡◌, ℕ, ◌+◌, ◌<◌, ◌≤◌, Bool, true, false, cond, leb, ltb, List, [], ◌∷◌, ◌++◌, length, Result, Ok, Err, refl, sym, ap, ◌∙◌, subst, ◌⊎◌, inl, inr, arith, append_assoc, length-append}
+use Rattle.std.proofs.Common.{◌≡◌, ℕ, ◌+◌, ◌<◌, ◌≤◌, cond, leb, List, [], ◌∷◌, ◌++◌, length, Result, Ok, Err, refl, sym, ap, ◌∙◌, subst, ◌⊎◌, inl, inr, arith, append_assoc, length-append}
 use Rattle.std.specs.Prelude.{codes}
 use Rattle.std.specs.List.{AllByRecursion}
 use Rattle.std.specs.Str.{bytes_eq}
 use Rattle.std.proofs.lemmas.List.{append-nil}
-use Rattle.std.proofs.lemmas.Bool.{cond-false, le-ltb, ltb-false, leb-false, lt-leb, false_from_ne_true}
+use Rattle.std.proofs.lemmas.Bool.{cond-false, leb-false, lt-leb, false_from_ne_true}
 use Rattle.std.proofs.lemmas.Slice.Eq.{bytes_eq-Decides}
 use Rattle.faust_text.specs.declared.cause.Cause.{Cause}
 use Rattle.faust_text.specs.declared.cause.Cause.TheVariants as causes
 use Rattle.faust_text.specs.Fields.{◌>>=◌}
 use Rattle.faust_text.specs.Lines.{TextLine, ended_lines, whole_line}
 use Rattle.faust_text.specs.Tokens.{tokens_of}
+use Rattle.faust_text.proofs.Choices.{chosen}
 use Rattle.faust_text.proofs.FieldLaws.{bind_ok, ok_same}
+use Rattle.faust_text.proofs.WholeLines.{ended_line, whole_line-again, whole_line-only}
 use Rattle.faust_script.specs.declared.event.Event.{Event}
 use Rattle.faust_script.specs.declared.script.Script.{Script}
 use Rattle.faust_script.specs.declared.stage.Stage.{Stage}
@@ -21,35 +23,6 @@ use Rattle.faust_script.specs.Words.{event_word}
 use Rattle.faust_script.specs.Parsing.{and_then_lines, finished, lines_from, stage_at, text_at, with_event}
 use Rattle.faust_script.specs.Scripts.{AreEventLines}
 use Rattle.faust_script.proofs.EventLaws.{event_spells}
-
--- A choice by a test, taken apart.
-chosen : {A : Type 0} (b : Bool) (x y z : A) → cond b x y ≡ z → ((b ≡ true) × (x ≡ z)) ⊎ ((b ≡ false) × (y ≡ z))
-chosen true x y z found = inl (refl, found)
-chosen false x y z found = inr (refl, found)
-
--- A whole line.
-abbrev pub ended_line : List ℕ → TextLine
-ended_line text = record { bytes = text; ended = true }
-
-pub whole_line-only : (line : TextLine) (text : List ℕ) → whole_line line ≡ Ok text → (line ≡ ended_line text) × (length text ≤ 40000)
-whole_line-only line text found =
-    elim (chosen (ltb 40000 (length line.bytes)) (Err causes.TooLong) (cond line.ended (Ok line.bytes) (Err causes.CutOff)) (Ok text) found) [
-      | inl long ↦ absurd (let e = long.1 in cc)
-      | inr fits ↦ elim (chosen line.ended (Ok line.bytes) (Err causes.CutOff) (Ok text) fits.1) [
-        | inl ended ↦
-            let same : line.bytes ≡ text = ok_same line.bytes text ended.1 in
-            let few : length line.bytes ≤ 40000 = ltb-false _ _ fits.0 in
-            (ap (λ t. record { bytes = line.bytes; ended = t }) ended.0 ∙ ap ended_line same, subst (λ (bs : List ℕ). length bs ≤ 40000) same few)
-        | inr open_end ↦ absurd (let e = open_end.1 in cc)
-      ]
-    ]
-
-whole_line-again : (text : List ℕ) → length text ≤ 40000 → whole_line (ended_line text) ≡ Ok text
-whole_line-again text few = cond-false (ltb 40000 (length text)) (Err causes.TooLong) (Ok text) (le-ltb _ _ few)
-
-pub ended_lines-append : (xs ys : List (List ℕ)) → ended_lines (xs ++ ys) ≡ ended_lines xs ++ ended_lines ys
-ended_lines-append [] ys = refl
-ended_lines-append (x ∷ xs) ys = ap (λ ls. ended_line x ∷ ls) (ended_lines-append xs ys)
 
 -- One line of lines that make a script.
 pub after_line : (number : ℕ) (lines : List TextLine) (r : Result Stage Cause) (script : Script) → and_then_lines number (λ next. lines_from next (number + 1) lines) r ≡ Ok script → (next : Stage) × (r ≡ Ok next) × (lines_from next (number + 1) lines ≡ Ok script)

@@ -1,8 +1,8 @@
 -- Refused lines and their causes.
-use Rattle.std.proofs.Common.{◌≡◌, ℕ, ◌+◌, ◌≤◌, suc, Bool, true, false, cond, leb, ltb, List, [], ◌∷◌, ◌++◌, length, take, drop, Option, Some, None, Result, Ok, Err, refl, sym, ap, ◌∙◌, ◌↔◌, ◌⊎◌, inl, inr, arith}
+use Rattle.std.proofs.Common.{◌≡◌, ℕ, ◌+◌, ◌≤◌, suc, cond, leb, List, [], ◌∷◌, ◌++◌, length, take, drop, Option, Some, None, Result, Ok, Err, refl, sym, ap, ◌∙◌, ◌↔◌, ◌⊎◌, inl, inr, arith}
 use Rattle.std.specs.Prelude.{codes}
 use Rattle.std.specs.Str.{bytes_eq}
-use Rattle.std.proofs.lemmas.Bool.{cases_Bool, cond-true, cond-false, le-ltb, lt-ltb, ltb-true, ltb-false, leb-true, leb-false, le-leb, lt-leb, both_ways, false_from_ne_true}
+use Rattle.std.proofs.lemmas.Bool.{cond-true, cond-false, leb-true, leb-false, le-leb, lt-leb, both_ways, false_from_ne_true}
 use Rattle.std.proofs.lemmas.List.{length-take-le, take-append-drop}
 use Rattle.std.proofs.lemmas.Slice.Eq.{bytes_eq-Decides}
 use Rattle.faust_text.specs.declared.cause.Cause.{Cause}
@@ -12,8 +12,10 @@ use Rattle.faust_text.specs.Heads.{head_at}
 use Rattle.faust_text.specs.Lines.{TextLine, lines_of}
 use Rattle.faust_text.specs.Spelled.{IsFirstFault}
 use Rattle.faust_text.specs.Tokens.{tokens_of}
+use Rattle.faust_text.proofs.Choices.{chosen}
 use Rattle.faust_text.proofs.FieldLaws.{bind_ok, bind_err, field_faults, field_spells, fields_fault, ok_same}
 use Rattle.faust_text.proofs.HeadLaws.{head_faults}
+use Rattle.faust_text.proofs.WholeLines.{whole_line-fault}
 use Rattle.faust_script.specs.declared.event.Event.{Event}
 use Rattle.faust_script.specs.declared.event.Event.TheVariants as event
 use Rattle.faust_script.specs.declared.edit.Edit.{Edit}
@@ -130,10 +132,6 @@ event_at-fault n [] cause = (λ found. cc, λ is. ap Err (sym is))
 event_at-fault n (token ∷ tokens) cause = event_named-fault n (event_word token) tokens cause
 
 -- The text of a line.
-chosen : {A : Type 0} (b : Bool) (x y z : A) → cond b x y ≡ z → ((b ≡ true) × (x ≡ z)) ⊎ ((b ≡ false) × (y ≡ z))
-chosen true x y z found = inl (refl, found)
-chosen false x y z found = inr (refl, found)
-
 abbrev grown : Script → Event → Result Stage Cause
 grown s e = Ok (stages.Events (with_event s e))
 
@@ -172,30 +170,7 @@ text-fault (stages.Ended s) text cause = (λ found. cc, λ is. ap Err (sym is))
 -- A line.
 line-fault : (stage : Stage) (line : TextLine) (cause : Cause) → (stage_at stage line ≡ Err cause) ↔ IsLineFault stage line cause
 unfolding stage_at
-line-fault stage line cause =
-    let law = text-fault stage line.bytes cause in (
-      λ found. elim (cases_Bool (ltb 40000 (length line.bytes))) [
-        | inl long ↦ inl (let e = sym (ap (λ t. cond t (Err causes.TooLong) (cond line.ended (Ok line.bytes) (Err causes.CutOff)) >>= text_at stage) long) ∙ found in cc, ltb-true _ _ long)
-        | inr fits ↦
-            let behind = sym (ap (λ t. cond t (Err causes.TooLong) (cond line.ended (Ok line.bytes) (Err causes.CutOff)) >>= text_at stage) fits) ∙ found in
-            inr (
-              ltb-false _ _ fits,
-              elim (cases_Bool line.ended) [
-                | inl ended ↦ inr (ended, law.0 (sym (ap (λ t. cond t (Ok line.bytes) (Err causes.CutOff) >>= text_at stage) ended) ∙ behind))
-                | inr open_end ↦ inl (let e = sym (ap (λ t. cond t (Ok line.bytes) (Err causes.CutOff) >>= text_at stage) open_end) ∙ behind in cc, open_end)
-              ],
-            )
-      ],
-      λ is. elim is [
-        | inl long ↦ ap (λ t. cond t (Err causes.TooLong) (cond line.ended (Ok line.bytes) (Err causes.CutOff)) >>= text_at stage) (lt-ltb 40000 (length line.bytes) long.1) ∙ ap Err (sym long.0)
-        | inr fits ↦
-            let behind : (cond line.ended (Ok line.bytes) (Err causes.CutOff) >>= text_at stage) ≡ Err cause = elim fits.1 [
-              | inl open_end ↦ ap (λ t. cond t (Ok line.bytes) (Err causes.CutOff) >>= text_at stage) open_end.1 ∙ ap Err (sym open_end.0)
-              | inr ended ↦ ap (λ t. cond t (Ok line.bytes) (Err causes.CutOff) >>= text_at stage) ended.0 ∙ law.1 ended.1
-            ] in
-            ap (λ t. cond t (Err causes.TooLong) (cond line.ended (Ok line.bytes) (Err causes.CutOff)) >>= text_at stage) (le-ltb 40000 (length line.bytes) fits.0) ∙ behind
-      ],
-    )
+line-fault stage line cause = whole_line-fault line (text_at stage) cause (IsTextFault stage line.bytes cause) (text-fault stage line.bytes cause)
 
 -- Lines that are read, and what comes behind them.
 pub lines_from-behind : (front more : List TextLine) (stage last : Stage) (number : ℕ) → reached stage front ≡ Ok last → lines_from stage number (front ++ more) ≡ lines_from last (number + length front) more

@@ -13,11 +13,12 @@ use Rattle.faust_text.specs.Tokens.{tokens_of}
 use Rattle.faust_text.proofs.FieldLaws.{bind_ok, ok_same}
 use Rattle.faust_text.proofs.HeadLaws.{heads_are, nothing_behind}
 use Rattle.faust_text.proofs.LineLaws.{ended_text-only, lines_of_ended_text}
+use Rattle.faust_text.proofs.WholeLines.{ended_line, ended_lines-append, whole_line-only}
 use Rattle.faust_script.specs.declared.script.Script.{Script}
 use Rattle.faust_script.specs.declared.stage.Stage.TheVariants as stages
 use Rattle.faust_script.specs.Parsing.{after_head, empty_script, finished, lines_from, parsed, script_form, stage_at, start, text_at}
 use Rattle.faust_script.specs.Scripts.{IsLineText, IsScriptText}
-use Rattle.faust_script.proofs.LineSteps.{FitsLine, after_line, end_text, ended_line, ended_lines-append, events_found, events_only, step_found, whole_line-only}
+use Rattle.faust_script.proofs.LineSteps.{FitsLine, after_line, end_text, events_found, events_only, step_found}
 
 -- The lines of a head, and the lines of events behind it.
 record HeadPart (head : Head) (lines : List TextLine) (script : Script) : Type 0 where

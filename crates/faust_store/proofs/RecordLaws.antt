@@ -14,13 +14,14 @@ use Rattle.faust_text.specs.Tokens.{tokens_of}
 use Rattle.faust_text.proofs.FieldLaws.{bind_ok, fields_in_range, ok_same}
 use Rattle.faust_text.proofs.HeadLaws.{heads_are, nothing_behind}
 use Rattle.faust_text.proofs.LineLaws.{ended_text-only, lines_of_ended_text}
+use Rattle.faust_text.proofs.WholeLines.{ended_line, ended_lines-append, whole_line-only}
 use Rattle.faust_record.specs.Runs.{IsRun, Run, first_run}
 use Rattle.faust_record.proofs.Runs.{run-first}
 use Rattle.faust_store.specs.declared.stage.Stage.TheVariants as stages
 use Rattle.faust_store.specs.InRange.{IsHead}
 use Rattle.faust_store.specs.Reading.{after_head, finished, lines_from, read, record_form, stage_at, start, text_at}
 use Rattle.faust_store.specs.Records.{IsLineText, IsRecord, IsRecordText}
-use Rattle.faust_store.proofs.LineSteps.{FitsLine, after_line, ended_line, ended_lines-append, entries_found, entries_only, step_found, whole_line-only}
+use Rattle.faust_store.proofs.LineSteps.{FitsLine, after_line, entries_found, entries_only, step_found}
 use Rattle.faust_store.proofs.Ranges.{IsStep, IsWhole, head_kept}
 
 -- The lines of a head, and the lines of entries behind it.

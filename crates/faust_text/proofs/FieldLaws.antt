@@ -16,6 +16,7 @@ use Rattle.faust_text.specs.Fields.{Field, Given, AllGiven, begins_as_value, wor
 use Rattle.faust_text.specs.Numbers.{is_number, worth}
 use Rattle.faust_text.specs.Spelled.{IsInRange, AreInRange, IsNumberIn, IsWordAt, kind_text, SpellsField, SpellsFields, IsFault, IsFirstFault}
 use Rattle.faust_text.specs.Values.{SpellsValue, bytes_of, bytes_text, hex_of, value_of}
+use Rattle.faust_text.proofs.Choices.{chosen}
 use Rattle.faust_text.proofs.ValueLaws.{values_are, bytes_are, hex-are, none_from}
 
 -- The steps of reading, taken apart.
@@ -36,11 +37,6 @@ some_same x y same = cc
 none_mapped : (o : Option ℕ) → option_map (λ p. suc p) o ≡ None → o ≡ None
 none_mapped None none = refl
 none_mapped (Some p) none = absurd (cc)
-
--- A choice by a test, taken apart.
-chosen : {A : Type 0} (b : Bool) (x y z : A) → cond b x y ≡ z → ((b ≡ true) × (x ≡ z)) ⊎ ((b ≡ false) × (y ≡ z))
-chosen true x y z found = inl (refl, found)
-chosen false x y z found = inr (refl, found)
 
 or_cause-ok : (o : Option (List ℕ)) (cause : Cause) (x : List ℕ) → or_cause o cause ≡ Ok x → o ≡ Some x
 or_cause-ok None cause x found = absurd (cc)

@@ -1,7 +1,10 @@
+pub mod Choices
 pub mod LineLaws
 pub mod TokenLaws
 pub mod NumberLaws
+pub mod Between
 pub mod ValueLaws
 pub mod FieldLaws
+pub mod WholeLines
 pub mod HeadLaws
 pub mod HeadPrints

@@ -34,7 +34,7 @@ pub use laws::{
     values_are_their_spellings,
 };
 pub use line::{Line, Lines, MAX_LINE_LEN, Span, line_at, lines, whole_line};
-pub use numeral::{is_number, number};
+pub use numeral::{is_number, number, number_between};
 pub use print::{put_hex, put_number, put_value};
 pub use spelling::{bytes, hex_bytes, value};
 pub use token::{Tokens, split_token, tokens};

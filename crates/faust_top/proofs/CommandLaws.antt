@@ -1,17 +1,19 @@
 -- The words of the commands: the function that reads them, and the facts that say the same.
-use Rattle.std.proofs.Common.{◌≡◌, ◌≢◌, ℕ, ◌^◌, ◌<◌, ◌≤◌, Bool, true, false, cond, leb, ◌&&◌, List, [], ◌∷◌, length, get_or, map, Option, Some, None, refl, sym, ap, ◌∙◌, subst, inl, inr, ◌⊎◌, arith}
+use Rattle.std.proofs.Common.{◌≡◌, ◌≢◌, ℕ, ◌^◌, ◌<◌, Bool, true, List, [], ◌∷◌, length, get_or, map, Option, Some, None, refl, sym, ap, ◌∙◌, subst, inl, inr, arith}
 use Rattle.std.specs.Prelude.{codes}
 use Rattle.std.specs.Fmt.{decimal}
 use Rattle.std.specs.List.{AllByRecursion, find}
 use Rattle.std.specs.Str.{bytes_eq}
-use Rattle.std.proofs.lemmas.Bool.{cases_Bool, cond-true, cond-false, and_parts, and_from, leb-true, le-leb}
+use Rattle.std.proofs.lemmas.Bool.{cases_Bool, cond-true, cond-false}
 use Rattle.std.proofs.lemmas.Slice.Eq.{bytes_eq-Decides}
-use Rattle.faust_text.specs.Numbers.{number_of}
+use Rattle.faust_text.specs.Numbers.{between, number_between, number_of}
+use Rattle.faust_text.proofs.Between.{between_from, between_parts}
+use Rattle.faust_text.proofs.Choices.{chosen}
 use Rattle.faust_text.proofs.NumberLaws.{numbers_are}
 use Rattle.faust_top.specs.declared.words.Command.{Command}
 use Rattle.faust_top.specs.declared.words.Command.TheVariants as commands
 use Rattle.faust_top.specs.Commands.{IsForm, IsInRange, IsNoForm, numbers_of, word_of}
-use Rattle.faust_top.specs.Forms.{between, command_of, number_between, plain_command, plain_commands, sample_command, sample_of}
+use Rattle.faust_top.specs.Forms.{command_of, plain_command, plain_commands, sample_command, sample_of}
 
 -- Words as a slice, and as a list.
 pub one_word : {X : Type 0} (f : X → List ℕ) (xs : List X) (w : X) → length xs ≡ 1 → w ≡ get_or xs 0 w → map f xs ≡ f w ∷ []
@@ -75,30 +77,6 @@ plain_form word command found =
     }
 
 -- Four words.
-chosen : {A : Type 0} (b : Bool) (x y z : A) → cond b x y ≡ z → ((b ≡ true) × (x ≡ z)) ⊎ ((b ≡ false) × (y ≡ z))
-chosen true x y z found = inl (refl, found)
-chosen false x y z found = inr (refl, found)
-
-record IsBetween (low high : ℕ) (o : Option ℕ) (x : ℕ) : Type 0 where
-  given : o ≡ Some x
-  from : low ≤ x
-  to : x ≤ high
-
-between_parts : (low high : ℕ) (o : Option ℕ) (x : ℕ) → between low high o ≡ Some x → IsBetween low high o x
-between_parts low high None x found = absurd (cc)
-between_parts low high (Some y) x found =
-    elim (chosen (leb low y && leb y high) (Some y) None (Some x) found) [
-      | inl taken ↦
-          let parts = and_parts _ _ taken.0 in
-          let same : y ≡ x = let e = taken.1 in cc in
-          subst (λ z. IsBetween low high (Some y) z) same (record { given = refl; from = leb-true _ _ parts.0; to = leb-true _ _ parts.1 })
-      | inr left ↦ absurd (let e = left.1 in cc)
-    ]
-
-between_from : (low high x : ℕ) → low ≤ x → x ≤ high → between low high (Some x) ≡ Some x
-between_from low high x from to =
-    cond-true (leb low x && leb x high) (Some x) None (and_from _ _ (le-leb _ _ from) (le-leb _ _ to))
-
 record IsSampleOf (seed clients ops : Option ℕ) (command : Command) : Type 0 where
   s : ℕ
   n : ℕ

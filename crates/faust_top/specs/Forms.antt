@@ -1,8 +1,8 @@
 -- The command of words, as a function. No promise rests on this: `specs/Commands.antt` says the same as facts.
-use Rattle.std.specs.Prelude.{ℕ, nat_le, ◌&&◌, List, [], ◌∷◌, codes, Option, Some, None, if◌then◌else◌}
+use Rattle.std.specs.Prelude.{ℕ, List, [], ◌∷◌, codes, Option, Some, None, if◌then◌else◌}
 use Rattle.std.specs.List.{find}
 use Rattle.std.specs.Str.{bytes_eq}
-use Rattle.faust_text.specs.Numbers.{number_of}
+use Rattle.faust_text.specs.Numbers.{number_between, number_of}
 use Rattle.faust_top.specs.declared.words.Command.{Command}
 use Rattle.faust_top.specs.declared.words.Command.TheVariants as commands
 use Rattle.faust_top.specs.Commands.{word_of}
@@ -12,13 +12,6 @@ plain_commands = commands.Script ∷ commands.Record ∷ commands.Audit ∷ comm
 
 abbrev pub plain_command : List ℕ → Option Command
 plain_command word = find (λ command. bytes_eq (word_of command) word) plain_commands
-
-abbrev pub between : ℕ → ℕ → Option ℕ → Option ℕ
-between low high None = None
-between low high (Some x) = if nat_le low x && nat_le x high then Some x else None
-
-abbrev pub number_between : List ℕ → ℕ → ℕ → Option ℕ
-number_between word low high = between low high (number_of word)
 
 abbrev pub sample_of : Option ℕ → Option ℕ → Option ℕ → Option Command
 sample_of None clients ops = None

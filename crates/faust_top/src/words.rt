@@ -1,8 +1,8 @@
 ghost use Rattle.std.specs.Prelude.{◌≡◌, map, string_bytes};
 ghost use Rattle.faust_top.specs.Commands.{IsInRange, limit_of, word_of};
-ghost use Rattle.faust_top.specs.Forms.{command_of, number_between, plain_command, sample_command};
+ghost use Rattle.faust_top.specs.Forms.{command_of, plain_command, sample_command};
 
-use faust_text::number;
+use faust_text::{number, number_between};
 
 /// What the words tell the program to do.
 #[derive(Clone, Copy, Debug, PartialEq, Eq)]
@@ -99,11 +99,4 @@ impl Command {
             Command::Sample { .. } => None,
         }
     }
-}
-
-fn number_between(word: &[u8], low: u64, high: u64) -> Option<u64>
-    ensures { result ≡ number_between word.now low high }
-{
-    let x = number(word)?;
-    if low <= x && x <= high { Some(x) } else { None }
 }
