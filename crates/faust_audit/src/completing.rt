@@ -2,7 +2,6 @@ ghost use Rattle.std.specs.Prelude.{◌≡◌, ◌<◌, [], length, option_copie
 ghost use Rattle.faust_types.specs.Clients.{IsClient};
 ghost use Rattle.faust_audit.specs.Completing.{AreCompleted, completed_as, completed_with, has_name, has_number, with_number};
 
-use crate::run_entry::entry_at;
 use faust_record::RunRecord;
 use faust_types::{Answer, OpName, OutOfMemory};
 use std::alloc::Global;
@@ -69,7 +68,7 @@ impl Completed {
             numbers: no_numbers(alloc, rec.config().clients)?,
         };
         for q in 0..rec.len() {
-            let entry = entry_at(rec, q);
+            let entry = rec.entry_at(q);
             completed.note(entry.client, entry.outcome.answer())?;
         }
         Ok(completed)

@@ -2,7 +2,6 @@ ghost use Rattle.std.specs.Prelude.{◌≡◌, IfOk};
 ghost use Rattle.faust_audit.specs.Departure.{first_departure};
 
 use crate::owing::Owing;
-use crate::run_entry::entry_at;
 use faust_record::RunRecord;
 use faust_types::OutOfMemory;
 use std::alloc::Global;
@@ -15,7 +14,7 @@ pub fn departure(alloc: Global, rec: &RunRecord) -> Result<Option<u64>, OutOfMem
     let config = rec.config();
     let mut owing = Owing::new(alloc, config.clients)?;
     for q in 0..rec.len() {
-        let entry = entry_at(rec, q);
+        let entry = rec.entry_at(q);
         if owing.follow(alloc, config, entry)? {
             return Ok(Some(entry.number));
         }

@@ -1,11 +1,9 @@
-ghost use Rattle.std.specs.Prelude.{◌≡◌, length, is_none, is_some, option_copied, IfOk};
-ghost use Rattle.faust_record.specs.Runs.{arriving};
+ghost use Rattle.std.specs.Prelude.{◌≡◌, length, is_some, option_copied, IfOk};
 ghost use Rattle.faust_record.specs.Operations.{started_among, started_in};
 ghost use Rattle.faust_audit.specs.Findings.{fact_of, facts_of, findings_of};
 
 use crate::departing::departure;
 use crate::ordering::order;
-use crate::run_entry::entry_at;
 use faust_record::{Entry, Fact, Facts, Findings, Input, RunRecord, Views};
 use faust_types::{Answer, Clients, Cut, OutOfMemory};
 use std::alloc::Global;
@@ -33,7 +31,7 @@ fn begun_count(rec: &RunRecord) -> u64
 {
     let mut begun = 0;
     for q in 0..rec.len() {
-        if begins(entry_at(rec, q)) {
+        if begins(rec.entry_at(q)) {
             begun += 1;
         }
     }
@@ -58,24 +56,12 @@ fn facts(alloc: Global, rec: &RunRecord) -> Result<Facts, OutOfMemory>
     let mut facts = Facts::new(alloc);
     facts.reserve(rec.len() as usize)?;
     for q in 0..rec.len() {
-        let entry = entry_at(rec, q);
-        if is_act(entry) {
+        let entry = rec.entry_at(q);
+        if entry.input.is_act() {
             facts.push(fact_of(alloc, entry)?)?;
         }
     }
     Ok(facts)
-}
-
-/// Whether it isn't an arrival.
-fn is_act(entry: &Entry) -> bool
-    ensures { result ≡ is_none (arriving entry.now.input) }
-{
-    match &entry.input {
-        Input::Arrive(_) => false,
-        Input::Write(_) | Input::Read(_) | Input::Reply(_) | Input::Peer(_) | Input::Tick(_) => {
-            true
-        }
-    }
 }
 
 /// What an entry gave its client.

@@ -30,7 +30,6 @@ mod ordering;
 mod owing;
 mod pass;
 mod reading;
-mod run_entry;
 #[cfg(test)]
 mod tests;
 mod watched;

@@ -6,7 +6,6 @@ ghost use Rattle.faust_audit.specs.Completing.{AreCompleted};
 ghost use Rattle.faust_audit.specs.Findings.{name_in_order, order_of, ordered_at, submit_in};
 
 use crate::completing::Completed;
-use crate::run_entry::entry_at;
 use faust_record::{Entry, Input, RunRecord};
 use faust_types::{Bytes, Config, Kind, Message, Names, OpName, OutOfMemory, Submit};
 use faust_wire::{WireError, decode};
@@ -20,7 +19,7 @@ pub fn order(alloc: Global, rec: &RunRecord) -> Result<Names, OutOfMemory>
     let completed = Completed::of(alloc, rec)?;
     let mut names = Names::new(alloc);
     for q in 0..rec.len() {
-        let entry = entry_at(rec, q);
+        let entry = rec.entry_at(q);
         let name = ordered_at(alloc, config, &completed, entry)?;
         put_name(&mut names, name)?;
     }

@@ -1,15 +1,13 @@
 // The few numbers that are told of a run.
 ghost use Rattle.std.specs.Prelude.{◌≡◌, ◌^◌, ◌<◌, [], ◌∷◌, ◌++◌, IfOk, OnOk};
-ghost use Rattle.faust_report.specs.Summary.{failures_line, notices};
-ghost use Rattle.faust_report.specs.Text.{departure_line, departure_word};
 ghost use Rattle.faust_outcome.specs.Outcomes.{live_line, receipts_in, short_text, user_operations_line};
 ghost use Rattle.faust_outcome.specs.Words.{IsInRange};
 
 use crate::words::LiveCommand;
 use faust_node::Receipt;
 use faust_receipts::Receipts;
-use faust_record::{Fact, Findings};
-use faust_report::notices;
+use faust_record::Findings;
+use faust_report::{put_departure, put_failures};
 use faust_text::put_number;
 use faust_types::{Bytes, OutOfMemory, Sequence};
 use std::alloc::Global;
@@ -63,30 +61,5 @@ fn put_operations(out: &mut Bytes, made: u64, of: u64) -> Result<(), OutOfMemory
     put_number(out, made)?;
     out.append(b" of ")?;
     put_number(out, of)?;
-    out.push(b'\n')
-}
-
-fn put_departure(out: &mut Bytes, departure: Option<u64>) -> Result<(), OutOfMemory>
-    ensures { OnOk result (out.new ≡ out.old ++ (departure_line departure ++ 10 ∷ [])) }
-{
-    out.append(b"departure ")?;
-    put_departure_word(out, departure)?;
-    out.push(b'\n')
-}
-
-fn put_departure_word(out: &mut Bytes, departure: Option<u64>) -> Result<(), OutOfMemory>
-    ensures { OnOk result (out.new ≡ out.old ++ departure_word departure) }
-{
-    match departure {
-        None => out.append(b"none"),
-        Some(entry) => put_number(out, entry),
-    }
-}
-
-fn put_failures(out: &mut Bytes, facts: &[Fact]) -> Result<(), OutOfMemory>
-    ensures { OnOk result (out.new ≡ out.old ++ (failures_line (notices facts.now) ++ 10 ∷ [])) }
-{
-    out.append(b"failures ")?;
-    put_number(out, notices(facts) as u64)?;
     out.push(b'\n')
 }

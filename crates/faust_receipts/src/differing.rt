@@ -4,11 +4,10 @@ ghost use Rattle.faust_report.specs.Text.{done_line};
 ghost use Rattle.faust_receipts.specs.Comparing.{first_difference, told_among, told_in, with_number};
 ghost use Rattle.faust_receipts.specs.Lines.{differs_line, first_differing_of, told_line};
 
-use crate::done_line::done_line;
 use crate::receipt::Receipts;
-use crate::run_entry::entry_at;
 use faust_node::Receipt;
 use faust_record::{Entry, RunRecord};
+use faust_report::put_done_line;
 use faust_types::{Answer, Bytes, OutOfMemory};
 use std::alloc::Global;
 
@@ -47,7 +46,7 @@ fn first_difference(
         if next == told.len() {
             return Ok(None);
         }
-        let entry = entry_at(rec, q);
+        let entry = rec.entry_at(q);
         match told_in(entry, client) {
             None => {}
             Some(answer) => {
@@ -102,6 +101,14 @@ fn line_without_completion(alloc: Global, receipt: &Receipt) -> Result<Bytes, Ou
 {
     let told = done_line(alloc, receipt.number, &receipt.answer)?;
     differs_line(alloc, told.as_slice(), b"none")
+}
+
+fn done_line(alloc: Global, number: u64, answer: &Answer) -> Result<Bytes, OutOfMemory>
+    ensures { IfOk result (λ line. line ≡ done_line number answer.now) }
+{
+    let mut line = Bytes::new(alloc);
+    put_done_line(&mut line, number, answer)?;
+    Ok(line)
 }
 
 fn differs_line(alloc: Global, told: &[u8], due: &[u8]) -> Result<Bytes, OutOfMemory>

@@ -12,10 +12,8 @@
 #![tactic(auto)]
 
 mod differing;
-mod done_line;
 pub mod laws;
 mod receipt;
-mod run_entry;
 mod shortage;
 #[cfg(test)]
 mod tests;

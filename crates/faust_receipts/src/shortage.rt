@@ -1,13 +1,11 @@
 ghost use Rattle.std.specs.Prelude.{◌≡◌, length, IfOk};
 ghost use Rattle.std.specs.List.{list_any};
 ghost use Rattle.faust_record.specs.Laws.{acts_of};
-ghost use Rattle.faust_record.specs.Runs.{arriving, entries_of};
-ghost use Rattle.std.specs.Option.{is_none};
+ghost use Rattle.faust_record.specs.Runs.{entries_of};
 ghost use Rattle.faust_receipts.specs.Lines.{first_short, has_notice, has_stopped, short_line};
 
 use crate::receipt::Receipts;
-use crate::run_entry::entry_at;
-use faust_record::{Entry, Input, MAX_ENTRIES, RunRecord};
+use faust_record::{MAX_ENTRIES, RunRecord};
 use faust_text::put_number;
 use faust_types::{Bytes, OutOfMemory};
 use std::alloc::Global;
@@ -56,7 +54,7 @@ fn has_notice(rec: &RunRecord, client: u64) -> bool
     ensures { result ≡ list_any has_notice (entries_of client rec.now.entries) }
 {
     for q in 0..rec.len() {
-        let entry = entry_at(rec, q);
+        let entry = rec.entry_at(q);
         if u64::from(entry.client) == client && entry.outcome.notice().is_some() {
             return true;
         }
@@ -70,22 +68,10 @@ fn acts(rec: &RunRecord, client: u64) -> u64
 {
     let mut acts = 0;
     for q in 0..rec.len() {
-        let entry = entry_at(rec, q);
-        if u64::from(entry.client) == client && is_act(entry) {
+        let entry = rec.entry_at(q);
+        if u64::from(entry.client) == client && entry.input.is_act() {
             acts += 1;
         }
     }
     acts
-}
-
-/// Whether it isn't an arrival.
-fn is_act(entry: &Entry) -> bool
-    ensures { result ≡ is_none (arriving entry.now.input) }
-{
-    match &entry.input {
-        Input::Arrive(_) => false,
-        Input::Write(_) | Input::Read(_) | Input::Reply(_) | Input::Peer(_) | Input::Tick(_) => {
-            true
-        }
-    }
 }

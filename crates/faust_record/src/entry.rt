@@ -1,4 +1,5 @@
-ghost use Rattle.std.specs.Prelude.{◌≡◌};
+ghost use Rattle.std.specs.Prelude.{◌≡◌, is_none};
+ghost use Rattle.faust_record.specs.Runs.{arriving};
 
 use crate::given::Given;
 use faust_types::Bytes;
@@ -14,6 +15,19 @@ pub enum Input {
     Peer(Bytes),
     Tick(u64),
     Arrive(Bytes),
+}
+
+impl Input {
+    /// Whether it comes to the client, and is no arrival at the server.
+    pub fn is_act(&self) -> bool
+        ensures { result ≡ is_none (arriving self.now) }
+    {
+        match self {
+            Input::Arrive(_) => false,
+            Input::Write(_) | Input::Read(_) | Input::Reply(_) | Input::Peer(_) | Input::Tick(_) =>
+                true,
+        }
+    }
 }
 
 /// One event of a run, with its number, the client that it came to or whose message arrived, and what it gave. The

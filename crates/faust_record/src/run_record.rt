@@ -1,6 +1,7 @@
-ghost use Rattle.std.specs.Prelude.{◌≡◌, None, length, option_copied, slice_get, IfOk};
+ghost use Rattle.std.specs.Prelude.{◌≡◌, ◌<◌, None, length, option_copied, slice_get, slice_index_or, IfOk};
 ghost use Rattle.faust_types.specs.Clients.{IsClient};
 ghost use Rattle.faust_types.specs.Ranges.{IsConfig};
+ghost use Rattle.faust_record.specs.declared.entry.Entry.{Entry};
 ghost use Rattle.faust_record.specs.Entries.{member_after};
 ghost use Rattle.faust_record.specs.Runs.{IsRun, arriving, entries_of, first_run};
 ghost use Rattle.faust_record.specs.Refusals.{IsInput, IsPushInput, Pushes, acted, arrived, push_of};
@@ -144,6 +145,17 @@ impl RunRecord {
         ensures { option_copied result ≡ slice_get self.now.entries q }
     {
         self.entries.as_slice().get(q as usize)
+    }
+
+    /// Entry q, which is there.
+    pub fn entry_at(&self, q: u64) -> &Entry
+        requires { q < length self.now.entries }
+        ensures { (d : Entry) → result.now ≡ slice_index_or self.now.entries q d }
+    {
+        match self.entry(q) {
+            Some(entry) => entry,
+            None => unreachable!(),
+        }
     }
 
     /// The record of these parts.

@@ -34,12 +34,19 @@ fn put_done(out: &mut Bytes, entry: u64, done: &Option<Answer>) -> Result<(), Ou
 fn put_answer(out: &mut Bytes, entry: u64, answer: &Answer) -> Result<(), OutOfMemory>
     ensures { OnOk result (out.new ≡ out.old ++ (done_line entry answer.now ++ 10 ∷ [])) }
 {
+    put_done_line(out, entry, answer)?;
+    out.push(b'\n')
+}
+
+/// Puts the line of a completed operation behind the text, without a line feed.
+pub fn put_done_line(out: &mut Bytes, entry: u64, answer: &Answer) -> Result<(), OutOfMemory>
+    ensures { OnOk result (out.new ≡ out.old ++ done_line entry answer.now) }
+{
     put_number(out, entry)?;
     out.append(b" done ")?;
     put_name(out, answer.op.name)?;
     out.push(b' ')?;
-    put_answer_text(out, answer)?;
-    out.push(b'\n')
+    put_answer_text(out, answer)
 }
 
 fn put_answer_text(out: &mut Bytes, answer: &Answer) -> Result<(), OutOfMemory>

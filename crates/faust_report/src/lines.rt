@@ -41,7 +41,8 @@ fn put_view(out: &mut Bytes, client: u64, names: &Names) -> Result<(), OutOfMemo
     out.push(b'\n')
 }
 
-pub(crate) fn put_departure(out: &mut Bytes, departure: Option<u64>) -> Result<(), OutOfMemory>
+/// Puts the line of the first reply that departed behind the text.
+pub fn put_departure(out: &mut Bytes, departure: Option<u64>) -> Result<(), OutOfMemory>
     ensures { OnOk result (out.new ≡ out.old ++ (departure_line departure ++ 10 ∷ [])) }
 {
     out.append(b"departure ")?;

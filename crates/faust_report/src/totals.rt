@@ -51,7 +51,8 @@ fn put_operations(out: &mut Bytes, begun: u64, facts: &[Fact]) -> Result<(), Out
     out.push(b'\n')
 }
 
-fn put_failures(out: &mut Bytes, facts: &[Fact]) -> Result<(), OutOfMemory>
+/// Puts the line of how many notices there are behind the text.
+pub fn put_failures(out: &mut Bytes, facts: &[Fact]) -> Result<(), OutOfMemory>
     ensures { OnOk result (out.new ≡ out.old ++ (failures_line (notices facts.now) ++ 10 ∷ [])) }
 {
     out.append(b"failures ")?;
@@ -91,7 +92,7 @@ fn completed_by(facts: &[Fact], client: u8) -> usize
 }
 
 /// How many notices there are among the facts.
-pub fn notices(facts: &[Fact]) -> usize
+fn notices(facts: &[Fact]) -> usize
     ensures { result ≡ notices facts.now }
 {
     let mut notices = 0;
