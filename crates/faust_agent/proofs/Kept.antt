@@ -185,7 +185,8 @@ kept-moved config me st next kept client range made = record {
 }
 
 pub kept-read : (config : Config) (me : ℕ) (st : Client) (j : ℕ) (heard : Option Known) → IsClientOf config me st
-    → IsClient config.clients me → IsClient config.clients j → IfSome heard (IsKnownBy config.clients j) → IsClientOf config me (with_read me st j heard)
+    → IsClient config.clients me → IsClient config.clients j → IfSome heard (IsKnownBy config.clients j)
+    → IsClientOf config me (with_read me st j heard)
 kept-read config me st j None kept client within range = kept
 kept-read config me st j (Some known) kept client within range =
     either_way (IsClientOf config me) (not (j == me) && is_less (version_at st j) known.version) (with_news (with_slot st j known) j) st

@@ -143,7 +143,8 @@ own-next config before rest e i watched run own is =
     ≡ state_at config e.client (replay config e.client (entries_of e.client before)) e.input =
     ap (replay config e.client) (entries_of-own e.client before e refl)
     ∙ replayed-append config e.client (first_client config.clients e.client) (entries_of e.client before) (e ∷ []) in
-    let kept : watched_then config e.client watched e ≡ watched_of e.client (replay config e.client (entries_of e.client (before ++ e ∷ []))) =
+    let kept : watched_then config e.client watched e
+    ≡ watched_of e.client (replay config e.client (entries_of e.client (before ++ e ∷ []))) =
     (entry-of config before rest e watched run is_own).kept ∙ ap (watched_of e.client) (sym after) in
     subst (λ (k : ℕ). watched_then config k watched e ≡ watched_of k (replay config k (entries_of k (before ++ e ∷ [])))) own kept
 

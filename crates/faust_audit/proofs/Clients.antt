@@ -21,7 +21,10 @@ pub event-in_range : (config : Config) (me : ℕ) (st : Client) (input : Input) 
     → MayCome config me st input → IsEventFor config.clients (event_of config me input)
 event-in_range config me st (inputs.Write value) count client may =
     record { register_in_range = client; value_in_range = may.value_in_range }
-event-in_range config me st (inputs.Read register) count client may = record { register_in_range = may.register_in_range; value_in_range = refl }
+event-in_range config me st (inputs.Read register) count client may = record {
+  register_in_range = may.register_in_range;
+  value_in_range = refl;
+}
 event-in_range config me st (inputs.Reply bytes) count client may = reply-in_range config bytes count may.bytes_each
 event-in_range config me st (inputs.Peer bytes) count client may = peer-in_range config bytes count may.bytes_each
 event-in_range config me st (inputs.Tick moment) count client may = tt

@@ -99,7 +99,8 @@ found-in name number (Some answer) =
 
 own-more : (xs : List Entry) (e : Entry) (t : ℕ)
     → is_some (completion_named (xs ++ e ∷ []) (record { client = e.client; t = t }))
-    ≡ (is_some (completion_named xs (record { client = e.client; t = t })) || completes (record { client = e.client; t = t }) e.outcome.answer)
+    ≡ (is_some (completion_named xs (record { client = e.client; t = t }))
+    || completes (record { client = e.client; t = t }) e.outcome.answer)
 own-more xs e t =
     let name : OpName = record { client = e.client; t = t } in
     let own : List Entry = entries_of e.client xs in
@@ -150,7 +151,8 @@ numbered-other n numbers i j None client within apart = refl
 numbered-other n numbers i j (Some answer) client within apart =
     numbered-apart n numbers i j answer.op.name (answer.op.name.client == i) client within apart
 
-counted-as : (numbers : List (List ℕ)) (i : ℕ) (ks : List ℕ) (b : Bool) → length (cond b (slice_set numbers (i - 1) ks) numbers) ≡ length numbers
+counted-as : (numbers : List (List ℕ)) (i : ℕ) (ks : List ℕ) (b : Bool)
+    → length (cond b (slice_set numbers (i - 1) ks) numbers) ≡ length numbers
 counted-as numbers i ks true = length-set numbers (i - 1) ks
 counted-as numbers i ks false = refl
 

@@ -36,7 +36,8 @@ passed-room key n me own op reply range client pending passed =
     timestamp-followed n (begun reply) reply.pending me range.version_known.version_in_range.count client range.pending_in_range in
     let none = tuples_by-own key me reply.proofs (begun reply) reply.pending passed.tuples_passed in
     let room : timestamp_at walk.version me + 1 < 2 ^ 40 = omega (arith, along, none, passed.own_counted, pending.number, pending.below) in
-    tuples-room key me reply.proofs (begun reply) reply.pending passed.tuples_passed (lt-ltb (timestamp_at walk.version me + 1) (2 ^ 40) room)
+    tuples-room key me reply.proofs (begun reply) reply.pending passed.tuples_passed
+    (lt-ltb (timestamp_at walk.version me + 1) (2 ^ 40) room)
 
 -- the next version is of as many clients
 pub next-sized : (n me : ℕ) (reply : Reply) → IsReplyFor n reply → clients_of (next_of me reply) ≡ n

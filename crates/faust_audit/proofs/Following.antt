@@ -124,7 +124,8 @@ handed-left config line debt i client kept j within =
       | inl own ↦
           let k : ℕ = times_of j line.handed in
           let one_more : k + 1 ≡ times_of j (line.handed ++ i ∷ []) = omega (arith, times-own i j line.handed own) in
-          let own_place : IsClient config.clients i → get_or (slice_set debt.due (i - 1) (drop 1 (due_to debt i))) (j - 1) [] ≡ drop 1 (due_to debt i) =
+          let own_place : IsClient config.clients i
+          → get_or (slice_set debt.due (i - 1) (drop 1 (due_to debt i))) (j - 1) [] ≡ drop 1 (due_to debt i) =
           λ c. subst (λ (m : ℕ). get_or (slice_set debt.due (i - 1) (drop 1 (due_to debt i))) (m - 1) [] ≡ drop 1 (due_to debt i)) own
           (set-own debt.due i (drop 1 (due_to debt i)) [] config.clients kept.counted.paired c) in
           own_place client ∙ ap (λ (m : ℕ). drop 1 (due_to debt m)) own ∙ ap (λ (l : List (List ℕ)). drop 1 l) (kept.left j within)
@@ -151,7 +152,8 @@ given-within : (config : Config) (line : Line) (debt : Debt) (i : ℕ) (reply : 
 given-within config line debt i reply kept j within =
     elim (cases_eq i j) [
       | inl own ↦
-          let longer : length (given_to j (line.given ++ (record { client = i; reply = reply }) ∷ [])) ≡ length (given_to j line.given) + 1 =
+          let longer : length (given_to j (line.given ++ (record { client = i; reply = reply }) ∷ []))
+          ≡ length (given_to j line.given) + 1 =
           ap (λ (l : List Reply). length l) (given-own i j line.given reply own) ∙ length-append (given_to j line.given) (reply ∷ []) in
           omega (arith, longer, kept.within j within)
       | inr other ↦
@@ -211,11 +213,13 @@ told-kept : (config : Config) (line : Line) (debt : Debt) (i : ℕ) (message : O
     → IsDebtOf config (line_told line i message) (debt_told config.wire debt i message)
 told-kept config line debt i None client kept counted = kept
 told-kept config line debt i (Some (messages.Submit m)) client kept counted =
-    let server : State → Type 0 = λ s. IsDebtOf config (line_served line i (submitted s i m)) (debt_served config.wire debt i (submitted debt.server i m)) in
+    let server : State → Type 0 = λ s. IsDebtOf config (line_served line i (submitted s i m))
+    (debt_served config.wire debt i (submitted debt.server i m)) in
     subst server kept.same_server (served-kept config line debt i (submitted debt.server i m) client kept counted)
 told-kept config line debt i (Some (messages.Reply m)) client kept counted = kept
 told-kept config line debt i (Some (messages.Commit m)) client kept counted =
-    let server : State → Type 0 = λ s. IsDebtOf config (line_settled line (committed s i m)) (debt_settled debt (committed debt.server i m)) in
+    let server : State → Type 0 = λ s. IsDebtOf config (line_settled line (committed s i m))
+    (debt_settled debt (committed debt.server i m)) in
     subst server kept.same_server (settled-kept config line debt (committed debt.server i m) kept counted)
 told-kept config line debt i (Some (messages.Peer m)) client kept counted = kept
 told-kept config line debt i (Some (messages.Hello from)) client kept counted = kept

@@ -21,7 +21,8 @@ one-or-none : {X : Type 0} (o : Option X) → length (option_to_list o) ≡ cond
 one-or-none {X} None = refl
 one-or-none {X} (Some x) = refl
 
-pub begun-more : (xs : List Entry) (e : Entry) → length (started_among (xs ++ e ∷ [])) ≡ length (started_among xs) + cond (is_some (started_in e)) 1 0
+pub begun-more : (xs : List Entry) (e : Entry)
+    → length (started_among (xs ++ e ∷ [])) ≡ length (started_among xs) + cond (is_some (started_in e)) 1 0
 begun-more xs e =
     ap (λ (l : List Started). length l) (started-append xs (e ∷ []))
     ∙ length-append (started_among xs) (started_among (e ∷ []))

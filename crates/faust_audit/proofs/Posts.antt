@@ -31,7 +31,8 @@ post-body wire message sized =
     ap (λ (l : List ℕ). 5 ∷ 1 ∷ drop 1 l) (before-tag (wire ∷ rest) message.tag sized)
 
 sent-bodies : (config : Config) (me : ℕ) (peer : Peer) (js : List ℕ)
-    → map post_body (map (spelled_post config.wire) (map (message_to config me peer) js)) ≡ map peer_body (map (message_to config me peer) js)
+    → map post_body (map (spelled_post config.wire) (map (message_to config me peer) js))
+    ≡ map peer_body (map (message_to config me peer) js)
 sent-bodies config me peer [] = refl
 sent-bodies config me peer (j ∷ js) =
     let message = message_to config me peer j in

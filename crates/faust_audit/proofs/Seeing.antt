@@ -247,7 +247,8 @@ reply-received config me st (Some reply) client kept range no_notice =
     reply-awaited config me st reply st.waiting client kept range no_notice refl
 
 reply-either : (config : Config) (me : ℕ) (st : Client) (reply : Option Reply) → IsClient config.clients me
-    → IsClientOf config me st → IfSome reply (IsReplyFor config.clients) → IsReplySeen config me st reply (deed_of config me st (replied reply))
+    → IsClientOf config me st → IfSome reply (IsReplyFor config.clients)
+    → IsReplySeen config me st reply (deed_of config me st (replied reply))
 unfolding deed_of
 reply-either config me st reply client kept range =
     either_way (IsReplySeen config me st reply) (is_none st.notice) (received config me st reply) deeds.Ignores

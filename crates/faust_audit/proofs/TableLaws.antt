@@ -195,13 +195,15 @@ first-again all input digest f is =
   where
     by : (o : Option (List ℕ)) → first_of_digest all digest ≡ o → first_or o (is_same (input_digest input) digest) input ≡ o
     by (Some g) at = refl
-    by None at = elim (cases_Bool (is_same (input_digest input) digest)) as (λ _. first_or None (is_same (input_digest input) digest) input ≡ None) [
-      | inl is_so ↦
-          let same = (is_same_tells (input_digest input) digest).0 is_so in
-          let both : Some f ≡ None = sym is ∙ ap (first_of_digest all) same ∙ at in
-          absurd (cc)
-      | inr is_not ↦ cond-false _ (Some input) None is_not
-    ]
+    by None at =
+        elim (cases_Bool (is_same (input_digest input) digest)) as (λ _. first_or None
+        (is_same (input_digest input) digest) input ≡ None) [
+          | inl is_so ↦
+              let same = (is_same_tells (input_digest input) digest).0 is_so in
+              let both : Some f ≡ None = sym is ∙ ap (first_of_digest all) same ∙ at in
+              absurd (cc)
+          | inr is_not ↦ cond-false _ (Some input) None is_not
+        ]
 
 -- a digest that is new
 pub first-new : (all : List (List ℕ)) (input digest : List ℕ) → first_of_digest all (input_digest input) ≡ None

@@ -46,7 +46,8 @@ reply-noticed config front rest entry reply version run clean quiet came (versio
 reply-noticed config front rest entry reply version run clean quiet came (version_of_j part reads is) apart =
     part-meets config front rest entry reply part run clean quiet came reads (subst (IsApartFromHeld config front entry) is apart)
 reply-noticed config front rest entry reply version run clean quiet came (next_version op waits answer judges is) apart =
-    next-meets config front rest entry reply op answer run clean quiet came waits judges (subst (IsApartFromHeld config front entry) is apart)
+    next-meets config front rest entry reply op answer run clean quiet came waits judges
+    (subst (IsApartFromHeld config front entry) is apart)
 
 brought-noticed : (config : Config) (front rest : List Entry) (entry : Entry) (version : Vector)
     → IsRun config (front ++ (entry ∷ rest)) → IsClean config (front ++ (entry ∷ rest)) → HadNoNotice config front entry

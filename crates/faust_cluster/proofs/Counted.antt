@@ -37,7 +37,8 @@ rose cause before now h is = record {
 pub replies-counted : (cause : Closing) (ends ends_now before now : ℕ) → before ≡ 0
     → StopsReplies cause ends ends_now before now → CountsStop (Some cause) now
 replies-counted closings.Asked ends ends_now before now none h = stood closings.Asked before now none h.1 (λ e. absurd (cc))
-replies-counted (closings.Failed notice) ends ends_now before now none h = stood (closings.Failed notice) before now none h.1 (λ e. absurd (cc))
+replies-counted (closings.Failed notice) ends ends_now before now none h =
+    stood (closings.Failed notice) before now none h.1 (λ e. absurd (cc))
 replies-counted closings.Ended ends ends_now before now none h = stood closings.Ended before now none h.1 (λ e. absurd (cc))
 replies-counted closings.Link ends ends_now before now none h = rose closings.Link before now h.1 refl
 replies-counted closings.Malformed ends ends_now before now none h = absurd h

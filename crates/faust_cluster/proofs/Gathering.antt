@@ -8,7 +8,8 @@ use Rattle.faust_outcome.specs.declared.gathered.Gathered.{Gathered}
 use Rattle.faust_outcome.specs.declared.words.LiveCommand.{LiveCommand}
 use Rattle.faust_cluster.specs.Casting.{AreParts, AreUsersTold, IsLiveConfig}
 
-pub live-config : (command : LiveCommand) (config : Config) → IsInRange command → config ≡ config_of command → IsConfig config → IsLiveConfig config
+pub live-config : (command : LiveCommand) (config : Config) → IsInRange command → config ≡ config_of command → IsConfig config
+    → IsLiveConfig config
 live-config command config range is kept = record {
   in_range = kept;
   few = subst (λ (c : Config). c.clients ≤ 8) (sym is) range.few_clients;

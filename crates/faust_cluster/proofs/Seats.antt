@@ -41,7 +41,8 @@ configs-more : (config : Config) (logs : List Log) (log : Log) → AreOfConfig c
 configs-more config [] log kept one = (one, tt)
 configs-more config (first ∷ logs) log kept one = (kept.0, configs-more config logs log kept.1 one)
 
-numbers-more : (logs : List Log) (log : Log) → numbers_of (logged_in (logs ++ log ∷ [])) ≡ numbers_of (logged_in logs) ++ numbers_of log.entries
+numbers-more : (logs : List Log) (log : Log)
+    → numbers_of (logged_in (logs ++ log ∷ [])) ≡ numbers_of (logged_in logs) ++ numbers_of log.entries
 numbers-more logs log =
     ap (λ (l : List Entry). numbers_of l) (flat_map-append (λ (l : Log). l.entries) logs (log ∷ [])
     ∙ ap (λ (l : List Entry). logged_in logs ++ l) (append-nil log.entries))

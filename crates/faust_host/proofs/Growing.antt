@@ -47,8 +47,10 @@ has_spare n xs seat count kept =
 few_after : (n i : ℕ) (xs : List Arrival) (a : Arrival) → a.client ≡ i → arrivals_of i xs < 200000
     → ((k : ℕ) → IsClient n k → arrivals_of k xs ≤ 200000) → (k : ℕ) → IsClient n k → arrivals_of k (xs ++ a ∷ []) ≤ 200000
 few_after n i xs a of_i room few k in_range = elim (cases_eq i k) [
-  | inl e ↦ let grown = arrivals_of-push_own k xs a (of_i ∙ e) in let full = subst (λ j. arrivals_of j xs < 200000) e room in omega (arith, grown, full)
-  | inr ne ↦ let same = arrivals_of-push_other k xs a (λ is. ne (sym of_i ∙ is)) in let before = few k in_range in omega (arith, same, before)
+  | inl e ↦ let grown = arrivals_of-push_own k xs a (of_i ∙ e) in let full = subst (λ j. arrivals_of j xs < 200000) e room in
+      omega (arith, grown, full)
+  | inr ne ↦ let same = arrivals_of-push_other k xs a (λ is. ne (sym of_i ∙ is)) in let before = few k in_range in
+      omega (arith, same, before)
 ]
 
 -- a numbered list stays one where an arrival of a client with room gets the number that the seat draws
@@ -85,12 +87,14 @@ counted-push n i bytes number counts xs of_i sized counted k of_k =
           let grown = arrivals_of-push_own k xs a e in
           let before = counted k of_k in
           let same = ap (λ j. slice_index counts (j - 1)) e in
-          let put = get_or-set_at counts (i - 1) (k - 1) (slice_index counts (i - 1) + 1) 0 (ap (λ j. j - 1) (sym e)) (omega (arith, within, here, sized)) in
+          let put = get_or-set_at counts (i - 1) (k - 1) (slice_index counts (i - 1) + 1) 0 (ap (λ j. j - 1) (sym e))
+          (omega (arith, within, here, sized)) in
           omega (arith, grown, before, same, put)
       | inr ne ↦
           let kept = arrivals_of-push_other k xs a ne in
           let before = counted k of_k in
-          let other = get_or-set_other counts (i - 1) (k - 1) (slice_index counts (i - 1) + 1) 0 (λ e. ne (omega (arith, e, here, there))) in
+          let other = get_or-set_other counts (i - 1) (k - 1) (slice_index counts (i - 1) + 1) 0
+          (λ e. ne (omega (arith, e, here, there))) in
           omega (arith, kept, before, other)
     ]
 
@@ -109,7 +113,8 @@ push_counted : (counts : List ℕ) (xs : List Arrival) (seat : SeatView) (i numb
     })
 push_counted counts xs seat i number bytes is of_i room = record {
   clients_count = is.clients_count;
-  numbered = numbered-push (length counts) i bytes number xs seat is.clients_count of_i is.numbered (leb-false 200000 (arrivals_of i xs) room);
+  numbered = numbered-push (length counts) i bytes number xs seat is.clients_count of_i is.numbered
+      (leb-false 200000 (arrivals_of i xs) room);
   counted = counted-push (length counts) i bytes number counts xs of_i refl is.counted;
 }
 

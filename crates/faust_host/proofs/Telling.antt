@@ -52,7 +52,8 @@ refused_tells : (n i : ℕ) (bytes : List ℕ) (old new : Cell) (closing : Closi
     → TellsOf n bytes (Err closing)
 refused_tells n i bytes old new closing of_n refused = elim refused.cause [
   | inl e ↦ subst (λ (c : Closing). TellsOf n bytes (Err c)) (sym e) tt
-  | inr due ↦ due_tells n i bytes old closing (request_in n bytes) refl (subst (λ k. due_to old i (request_in k bytes) ≡ Err closing) of_n due)
+  | inr due ↦ due_tells n i bytes old closing (request_in n bytes) refl
+      (subst (λ k. due_to old i (request_in k bytes) ≡ Err closing) of_n due)
 ]
 
 pub handles_tell : (n i : ℕ) (bytes : List ℕ) (old new : Cell) (result : Result (Option (List ℕ)) Closing) → old.clients ≡ n

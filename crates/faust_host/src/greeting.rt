@@ -13,7 +13,8 @@ use std::alloc::Global;
 #[tactic(auto, unfolding(crate::specs::Requests::client_in))]
 pub fn client_in(alloc: Global, n: u8, bytes: &[u8]) -> Result<u8, Closing>
     requires { IsClientCount n }
-    ensures named { MatchResult result (λ client. client_in n bytes.now ≡ Some client) (λ closing. (closing ≡ closings.Memory) ⊎ ((closing ≡ closings.Malformed) × (client_in n bytes.now ≡ None))) }
+    ensures named { MatchResult result (λ client. client_in n bytes.now ≡ Some client)
+        (λ closing. (closing ≡ closings.Memory) ⊎ ((closing ≡ closings.Malformed) × (client_in n bytes.now ≡ None))) }
     ensures in_range { IfOk result (IsClient n) }
 {
     match decode(alloc, WIRE, n, bytes) {

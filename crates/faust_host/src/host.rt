@@ -62,7 +62,8 @@ impl<T: Service> Host<T> {
         output: &mut O,
         gate: &G,
     ) -> Closing
-        ensures { StoppedBy T.clients (ends_at (I.left input.old) (I.ends input.old) (I.faults input.old) (O.faults output.old)) (ends_at (I.left input.new) (I.ends input.new) (I.faults input.new) (O.faults output.new)) result }
+        ensures { StoppedBy T.clients (ends_at (I.left input.old) (I.ends input.old) (I.faults input.old) (O.faults output.old))
+            (ends_at (I.left input.new) (I.ends input.new) (I.faults input.new) (O.faults output.new)) result }
     {
         let closing = self.serve_all(rt, input, output, gate);
         output.close();
@@ -77,7 +78,8 @@ impl<T: Service> Host<T> {
         output: &mut O,
         gate: &G,
     ) -> Closing
-        ensures { StoppedBy T.clients (ends_at (I.left input.old) (I.ends input.old) (I.faults input.old) (O.faults output.old)) (ends_at (I.left input.new) (I.ends input.new) (I.faults input.new) (O.faults output.new)) result }
+        ensures { StoppedBy T.clients (ends_at (I.left input.old) (I.ends input.old) (I.faults input.old) (O.faults output.old))
+            (ends_at (I.left input.new) (I.ends input.new) (I.faults input.new) (O.faults output.new)) result }
     {
         let mut frame = Bytes::new(self.alloc);
         match self.greeted(rt, input, &mut frame) {
@@ -94,7 +96,8 @@ impl<T: Service> Host<T> {
         frame: &mut Bytes,
     ) -> Result<u8, Closing>
         ensures in_range { IfOk result (IsClient T.clients) }
-        ensures greets { Greets T.clients result (inlet_at (I.left input.old) (I.ends input.old) (I.faults input.old)) (inlet_at (I.left input.new) (I.ends input.new) (I.faults input.new)) }
+        ensures greets { Greets T.clients result (inlet_at (I.left input.old) (I.ends input.old) (I.faults input.old))
+            (inlet_at (I.left input.new) (I.ends input.new) (I.faults input.new)) }
     {
         take_frame(input, frame)?;
         let client = client_in(self.alloc, self.clients, frame.as_slice())?;
@@ -113,7 +116,8 @@ impl<T: Service> Host<T> {
         frame: Bytes,
     ) -> Closing
         requires { IsClient T.clients client }
-        ensures { StopsBehind T.clients (ends_at (I.left input.old) (I.ends input.old) (I.faults input.old) (O.faults output.old)) (ends_at (I.left input.new) (I.ends input.new) (I.faults input.new) (O.faults output.new)) result }
+        ensures { StopsBehind T.clients (ends_at (I.left input.old) (I.ends input.old) (I.faults input.old) (O.faults output.old))
+            (ends_at (I.left input.new) (I.ends input.new) (I.faults input.new) (O.faults output.new)) result }
     {
         let mut frame = frame;
         for _ in rt.forever() {
@@ -136,7 +140,8 @@ impl<T: Service> Host<T> {
         frame: &mut Bytes,
     ) -> Result<(), Closing>
         requires { IsClient T.clients client }
-        ensures { Rounds T.clients (ends_at (I.left input.old) (I.ends input.old) (I.faults input.old) (O.faults output.old)) (ends_at (I.left input.new) (I.ends input.new) (I.faults input.new) (O.faults output.new)) result }
+        ensures { Rounds T.clients (ends_at (I.left input.old) (I.ends input.old) (I.faults input.old) (O.faults output.old))
+            (ends_at (I.left input.new) (I.ends input.new) (I.faults input.new) (O.faults output.new)) result }
     {
         take_frame(input, frame)?;
         match self.handle(rt, client, frame.as_slice())? {
@@ -175,7 +180,8 @@ impl<T: Service> Host<T> {
 
 /// Takes the next frame of the stream.
 fn take_frame<I: FrameIn>(input: &mut I, frame: &mut Bytes) -> Result<(), Closing>
-    ensures { TakesOne result (inlet_at (I.left input.old) (I.ends input.old) (I.faults input.old)) (inlet_at (I.left input.new) (I.ends input.new) (I.faults input.new)) frame.new }
+    ensures { TakesOne result (inlet_at (I.left input.old) (I.ends input.old) (I.faults input.old))
+        (inlet_at (I.left input.new) (I.ends input.new) (I.faults input.new)) frame.new }
 {
     match input.recv(frame) {
         Ok(Got::Frame) => Ok(()),
@@ -187,7 +193,8 @@ fn take_frame<I: FrameIn>(input: &mut I, frame: &mut Bytes) -> Result<(), Closin
 /// Sends a reply.
 fn send<O: FrameOut>(output: &mut O, reply: &[u8]) -> Result<(), Closing>
     requires { IsFrame reply.now }
-    ensures { MatchResult result (λ _. O.faults output.new ≡ O.faults output.old) (λ closing. SendStopped closing (O.faults output.old) (O.faults output.new)) }
+    ensures { MatchResult result (λ _. O.faults output.new ≡ O.faults output.old)
+        (λ closing. SendStopped closing (O.faults output.old) (O.faults output.new)) }
 {
     match output.send(reply) {
         Ok(()) => Ok(()),

@@ -22,7 +22,8 @@ pub enum Request {
 #[tactic(auto, unfolding(crate::specs::Requests::request_in))]
 pub fn request_in(alloc: Global, n: u8, bytes: &[u8]) -> Result<Request, Closing>
     requires { IsClientCount n }
-    ensures asked { MatchResult result (λ request. request_in n bytes.now ≡ Some request) (λ closing. (closing ≡ closings.Memory) ⊎ ((closing ≡ closings.Malformed) × (request_in n bytes.now ≡ None))) }
+    ensures asked { MatchResult result (λ request. request_in n bytes.now ≡ Some request)
+        (λ closing. (closing ≡ closings.Memory) ⊎ ((closing ≡ closings.Malformed) × (request_in n bytes.now ≡ None))) }
     ensures in_range { IfOk result (IsRequestFor n) }
 {
     match decode(alloc, WIRE, n, bytes) {

@@ -72,7 +72,9 @@ impl Servers {
         ensures same { self.new ≡ self.old }
         ensures count { IfOk result (λ tried. client_count tried.server ≡ client_count self.old) }
         ensures sendable { IfOk result (λ tried. IfSome tried.reply IsFrame) }
-        ensures due { MatchResult result (λ tried. deed self.old i request.now ≡ Ok (record { state = tried.server; reply = tried.reply })) (λ closing. (closing ≡ closings.Memory) ⊎ (deed_or_turn (deed self.old i request.now) ≡ Err closing)) }
+        ensures due { MatchResult result
+            (λ tried. deed self.old i request.now ≡ Ok (record { state = tried.server; reply = tried.reply }))
+            (λ closing. (closing ≡ closings.Memory) ⊎ (deed_or_turn (deed self.old i request.now) ≡ Err closing)) }
     {
         let Ok(draft) = self.draft() else {
             return Err(Closing::Memory);
@@ -114,7 +116,9 @@ fn tried_submit(alloc: Global, server: Server, i: u8, m: &Submit) -> Result<Trie
     requires message { IsSubmitFor (client_count server) m.now }
     ensures count { IfOk result (λ tried. client_count tried.server ≡ client_count server) }
     ensures sendable { IfOk result (λ tried. IfSome tried.reply IsFrame) }
-    ensures due { MatchResult result (λ tried. deed_of_submit (submitted server i m.now) ≡ Ok (record { state = tried.server; reply = tried.reply })) (λ closing. (closing ≡ closings.Memory) ⊎ (deed_or_turn (deed_of_submit (submitted server i m.now)) ≡ Err closing)) }
+    ensures due { MatchResult result
+        (λ tried. deed_of_submit (submitted server i m.now) ≡ Ok (record { state = tried.server; reply = tried.reply }))
+        (λ closing. (closing ≡ closings.Memory) ⊎ (deed_or_turn (deed_of_submit (submitted server i m.now)) ≡ Err closing)) }
 {
     let mut server = server;
     let n = server.clients();
@@ -144,7 +148,9 @@ fn tried_commit(server: Server, i: u8, m: &Commit) -> Result<Tried, Closing>
     requires message { IsCommitFor (client_count server) m.now }
     ensures count { IfOk result (λ tried. client_count tried.server ≡ client_count server) }
     ensures sendable { IfOk result (λ tried. IfSome tried.reply IsFrame) }
-    ensures due { MatchResult result (λ tried. deed_of_commit (committed server i m.now) ≡ Ok (record { state = tried.server; reply = tried.reply })) (λ closing. (closing ≡ closings.Memory) ⊎ (deed_or_turn (deed_of_commit (committed server i m.now)) ≡ Err closing)) }
+    ensures due { MatchResult result
+        (λ tried. deed_of_commit (committed server i m.now) ≡ Ok (record { state = tried.server; reply = tried.reply }))
+        (λ closing. (closing ≡ closings.Memory) ⊎ (deed_or_turn (deed_of_commit (committed server i m.now)) ≡ Err closing)) }
 {
     let mut server = server;
     let Ok(copy) = m.copy() else {

@@ -212,11 +212,13 @@ acted-joined config world front e more sized client step act h line line_is serv
     let fits : IsDeedFor config i st deed =
     deed-in_range config i st (event_of config i e.input) client mine.in_step.in_range
     (event-in_range config i st e.input sized client step.may_come) in
-    let stepped : IsClientJoined config world h.arrived (count i h.handled) i (own ++ e ∷ []) (given_to i before.given) (times_of i line.handed) =
+    let stepped : IsClientJoined config world h.arrived (count i h.handled) i (own ++ e ∷ []) (given_to i before.given)
+    (times_of i line.handed) =
     joined-one config world h.arrived (count i h.handled) i own (given_to i before.given) (given_to i before.given)
     (times_of i before.handed) (times_of i line.handed) e mine act step.outcome_is
     (subst (λ (x : ℕ). IsInStep config world h.arrived (count i h.handled) (length (started_among own) + x) i (after config i st deed)
-    (mine.queue ++ option_to_list (sent_of config i st deed)) (given_to i before.given) (times_of i line.handed)) (sym begun) done.in_step) in
+    (mine.queue ++ option_to_list (sent_of config i st deed)) (given_to i before.given) (times_of i line.handed))
+    (sym begun) done.in_step) in
     let Each : ℕ → List Entry → Type 0 = λ (k : ℕ) (l : List Entry).
     IsClientJoined config world h.arrived (count k h.handled) k l (given_to k before.given) (times_of k line.handed) in
     let each : (k : ℕ) → IsClient n k → Each k (entries_of k (front ++ e ∷ [])) = λ k within. elim (cases_eq i k) [
@@ -228,7 +230,8 @@ acted-joined config world front e more sized client step act h line line_is serv
           (h.each k within))
     ] in
     let joined : Line → Type 0 = λ (l : Line). (k : ℕ) → IsClient n k
-    → IsClientJoined config world h.arrived (count k h.handled) k (entries_of k (front ++ e ∷ [])) (given_to k l.given) (times_of k l.handed) in
+    → IsClientJoined config world h.arrived (count k h.handled) k (entries_of k (front ++ e ∷ [])) (given_to k l.given)
+    (times_of k l.handed) in
     let now : IsJoined config world (front ++ e ∷ []) = record {
       arrived = h.arrived;
       handled = h.handled;

@@ -91,7 +91,8 @@ part-within : (n : ℕ) (world : World) (st : State) (arrived handled : List ℕ
 part-within n world st arrived handled None honest range shown = tt
 part-within n world st arrived handled (Some part) honest range shown =
     let j : ℕ = part.register in
-    let version : IsVersionOf n (version_at st j).version (upto j (count j handled) arrived) = (honest.held j range.register_in_range).version in
+    let version : IsVersionOf n (version_at st j).version (upto j (count j handled) arrived) =
+    (honest.held j range.register_in_range).version in
     record {
       history = upto j (count j handled) arrived;
       is_version = subst (λ (known : Known). IsVersionOf n known.version (upto j (count j handled) arrived)) (sym shown.is_held) version;
@@ -136,7 +137,8 @@ pub record IsServedNext (n : ℕ) (world : World) (st : State) (arrived handled 
   pub reply_to : IsReplyTo n world (i ∷ arrived) i (suc (count i arrived)) served.reply
   pub of_history : AreOfHistory n world (i ∷ arrived) (handled_with i handled m.commit) (checked served.reply)
 
-served-well : (n : ℕ) (world : World) (st : State) (arrived handled : List ℕ) (i : ℕ) (c : Option Commit) → IsHonest n world st arrived handled
+served-well : (n : ℕ) (world : World) (st : State) (arrived handled : List ℕ) (i : ℕ) (c : Option Commit)
+    → IsHonest n world st arrived handled
     → IsClient n i → IsSubmitFor n (submit_of world i (suc (count i arrived)) c)
     → count i arrived ≡ count i handled + rides c → IfSome c (IsCommitMade n world arrived i (count i arrived))
     → IsOkAnd (submitted st i (submit_of world i (suc (count i arrived)) c)) (IsServedWell n world i arrived (handled_with i handled c))
@@ -153,7 +155,8 @@ served-next config world st arrived handled i m honest client due =
     let n = config.clients in
     let a : ℕ = count i arrived in
     let next : Submit = submit_of world i (suc a) m.commit in
-    let Well : Submit → Type 0 = λ (x : Submit). IsOkAnd (submitted st i x) (IsServedWell n world i arrived (handled_with i handled m.commit)) in
+    let Well : Submit → Type 0 = λ (x : Submit). IsOkAnd (submitted st i x)
+    (IsServedWell n world i arrived (handled_with i handled m.commit)) in
     let well = ok-and (IsServedWell n world i arrived (handled_with i handled m.commit)) (submitted st i m)
     (subst Well (sym due.is_next)
     (served-well n world st arrived handled i m.commit honest client (subst (IsSubmitFor n) due.is_next due.in_range.0) due.balanced
@@ -181,7 +184,8 @@ served-next config world st arrived handled i m honest client due =
       };
       of_history = subst (λ (x : Served). AreOfHistory n world (i ∷ arrived) after (checked x.reply)) (sym by.served_is)
           (reply-of n world by.now arrived after i m settled
-          (subst (λ (x : Served). IsHonest n world x.state (i ∷ arrived) after) by.served_is well.2.honest) due.in_range.0.register_in_range);
+          (subst (λ (x : Served). IsHonest n world x.state (i ∷ arrived) after) by.served_is well.2.honest)
+          due.in_range.0.register_in_range);
     }
 
 le_cases : (a b : ℕ) → a ≤ b → (a < b) ⊎ (a ≡ b)
@@ -211,7 +215,8 @@ submitted-in_step config world arrived handled begun i st m rest given handed re
     let moved : Lead config world (i ∷ arrived) i (suc a) (count i handled + rides m.commit) rest begun h.all_committed =
     lead-more config world arrived i (suc a) (count i handled + rides m.commit) rest begun h.all_committed i h.leads.1 in
     let longer : length (given ++ reply ∷ []) ≡ suc a = length-append given (reply ∷ []) ∙ omega (arith, h.given_each) in
-    let Found : ℕ → Type 0 = λ (t : ℕ). (r : Reply) × (slice_get (given ++ reply ∷ []) t ≡ Some r) × IsReplyTo n world (i ∷ arrived) i (suc t) r in
+    let Found : ℕ → Type 0 = λ (t : ℕ). (r : Reply) × (slice_get (given ++ reply ∷ []) t ≡ Some r)
+    × IsReplyTo n world (i ∷ arrived) i (suc t) r in
     record {
       in_range = h.in_range;
       no_notice = h.no_notice;

@@ -154,7 +154,8 @@ pairs-clear config world front e (inputs.Read register) next is h all pair has r
 pairs-clear config world front e (inputs.Reply bytes) next is h all pair has right =
     let over : IsHandedOver config world front e bytes h.arrived = handed-over config world front e bytes next is h in
     let of_history : AreOfHistory config.clients world h.arrived h.handled (checked over.reply) =
-    given-here config.clients world h.arrived h.handled e.client (line_of config front).given (times_of e.client (line_of config front).handed)
+    given-here config.clients world h.arrived h.handled e.client (line_of config front).given
+    (times_of e.client (line_of config front).handed)
     over.reply h.given over.is_given in
     body-made config world front pair.body h all
     (of_history pair (subst (λ (o : Option Reply). Has (pairs_of_reply o) pair) over.is_read has))

@@ -235,7 +235,8 @@ pub record IsPassedOn (config : Config) (world : World) (arrived : List ℕ) (co
   pub held_back : IsHeldBack config.clients world arrived k done all_committed held
   pub leads : Lead config world arrived k (count k arrived) committed queue begun all_committed
 
-passed-on : (config : Config) (world : World) (arrived : List ℕ) (committed begun k done all : ℕ) (queue : List Sent) (c : Commit) (b : Bool)
+passed-on : (config : Config) (world : World) (arrived : List ℕ) (committed begun k done all : ℕ) (queue : List Sent)
+    (c : Commit) (b : Bool)
     → Lead config world arrived k (count k arrived) committed queue begun all → begun ≡ done → done ≡ suc all
     → IsCommitMade config.clients world arrived k done c
     → IsCommitFor config.clients c

@@ -119,7 +119,8 @@ arrived-one config world arrived committed k own given handed e message gone s r
             ∙ length-append (arrived_in own) (message ∷ []));
       };
       in_step = subst (λ (b : ℕ). IsInStep config world arrived committed b k (replay config k (own ++ e ∷ [])) rest given handed) begun
-          (subst (λ (c : Client). IsInStep config world arrived committed (length (started_among own)) k c rest given handed) (sym same) step);
+          (subst (λ (c : Client). IsInStep config world arrived committed (length (started_among own)) k c rest given handed)
+          (sym same) step);
     }
 
 -- another client's entry
@@ -128,7 +129,8 @@ pub joined-other : (config : Config) (world : World) (arrived : List ℕ) (commi
     → IsClientJoined config world arrived committed k (entries_of k front) given handed
     → IsClientJoined config world arrived committed k (entries_of k (front ++ e ∷ [])) given handed
 joined-other config world arrived committed k front e given handed other h =
-    subst (λ (own : List Entry). IsClientJoined config world arrived committed k own given handed) (sym (entries_of-other k front e other)) h
+    subst (λ (own : List Entry). IsClientJoined config world arrived committed k own given handed)
+    (sym (entries_of-other k front e other)) h
 
 pub joined-more : (config : Config) (world : World) (arrived : List ℕ) (committed k x : ℕ) (own : List Entry) (given : List Reply)
     (handed : ℕ) → (x ≡ k → ⊥) → IsClientJoined config world arrived committed k own given handed

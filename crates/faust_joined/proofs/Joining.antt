@@ -86,7 +86,8 @@ write-next config world front e value next is h =
     let order : Order = write_of i value in
     let ordered : order_in i e.input e.outcome ≡ Some order = ap (λ (x : Input). order_in i x e.outcome) is in
     let may : MayCome config i st (inputs.Write value) = subst (MayCome config i st) is next.step.may_come in
-    silent-next config world front e 1 (inputs.Write value) next is refl (λ bytes never. absurd cc) refl (begun-once e order ordered) h next.client
+    silent-next config world front e 1 (inputs.Write value) next is refl (λ bytes never. absurd cc) refl
+    (begun-once e order ordered) h next.client
     (subst (λ (x : Input). IsDone config world h.arrived (count i h.handled) (length (started_among (entries_of i front))) 1 i st
     (h.each i next.client).queue (given_to i (line_of config front).given) (times_of i (line_of config front).handed)
     (deed_at config i st x)) (sym is)
@@ -181,7 +182,8 @@ peer-next config world front e bytes next is h =
 
 -- Tick
 length-mapped : (o : Option Operation) (number : ℕ)
-    → length (option_to_list (option_map (λ (x : Order). let s : Started = record { order = x; number = number } in s) (option_map dummy_read_of o)))
+    → length (option_to_list (option_map (λ (x : Order). let s : Started = record { order = x; number = number } in
+    s) (option_map dummy_read_of o)))
     ≡ length (option_to_list o)
 length-mapped None number = refl
 length-mapped (Some op) number = refl
@@ -194,7 +196,8 @@ tick-case : (config : Config) (world : World) (arrived : List ℕ) (committed be
     (given : List Reply) (handed : ℕ) (b : Bool) → world.key ≡ config.key → IsClient config.clients k
     → IsInStep config world arrived committed begun k st queue given handed
     → (b ≡ true → is_dummy_due config k st m ≡ true → IsOrderOf world k (suc begun) (dummy_of st))
-    → IsDone config world arrived committed begun (length (option_to_list (began_of config k st (if b then deeds.Ticks m else deeds.Ignores))))
+    → IsDone config world arrived committed begun
+    (length (option_to_list (began_of config k st (if b then deeds.Ticks m else deeds.Ignores))))
     k st queue given handed (if b then deeds.Ticks m else deeds.Ignores)
 tick-case config world arrived committed begun k m st queue given handed true keys client h ordered =
     subst (λ (more : ℕ). IsDone config world arrived committed begun more k st queue given handed (deeds.Ticks m))

@@ -91,7 +91,8 @@ told-of config world entries a x of_clients known found =
     let k : ℕ = a.client in
     elim (is-client config.clients k) [
       | inl client ↦
-          let told : AreTold world known.joined.arrived k (finished_among (entries_of k entries)) (times_of k (line_of config entries).handed) =
+          let told : AreTold world known.joined.arrived k (finished_among (entries_of k entries))
+          (times_of k (line_of config entries).handed) =
           known.told k client in
           let place = found-place a (finished_among (entries_of k entries)) x found in
           let at : IsToldAt world known.joined.arrived k (suc place.0) x = told.each place.0 x place.1 in
@@ -190,7 +191,8 @@ seen-begun config all a begun is = elim (cases_eq a.t 0) [
       begun-found config all a begun (operation_named all a) refl (omega (arith, some)) read
 ]
 
-by-tick : (began : Option Operation) (order : Order) → option_map dummy_read_of began ≡ Some order → order.kind ≡ Write → (i : ℕ) → order.register ≡ i
+by-tick : (began : Option Operation) (order : Order) → option_map dummy_read_of began ≡ Some order → order.kind ≡ Write → (i : ℕ)
+    → order.register ≡ i
 by-tick None order is writes i = absurd (cc is)
 by-tick (Some op) order is writes i =
     let never : Read ≡ Write = ap (λ (o : Order). o.kind) (same_Some _ order is) ∙ writes in absurd (cc never)
@@ -313,13 +315,15 @@ written-one : (world : World) (r k : ℕ) (w : List ℕ)
     (written world r (count r w))
 written-one world r k w = elim (cases_eq k r) [
   | inl same ↦
-      let step : ℕ → Option (List ℕ) = λ (j : ℕ). written_by (world.kind j (suc (count j w))) (world.value j (suc (count j w))) (written world r (count r w)) in
+      let step : ℕ → Option (List ℕ) = λ (j : ℕ). written_by (world.kind j (suc (count j w))) (world.value j (suc (count j w)))
+      (written world r (count r w)) in
       ap (written world r) (count-own r k w same) ∙ sym (ap step same)
       ∙ sym (ap (λ (b : Bool). cond b (step k) (written world r (count r w))) (eq-eqb k r same))
   | inr other ↦
       ap (written world r) (count-other r k w other)
       ∙ sym (ap (λ (b : Bool). cond b
-      (written_by (world.kind k (suc (count k w))) (world.value k (suc (count k w))) (written world r (count r w))) (written world r (count r w)))
+      (written_by (world.kind k (suc (count k w))) (world.value k (suc (count k w))) (written world r (count r w)))
+      (written world r (count r w)))
       (ne_eqb k r other))
 ]
 
@@ -381,7 +385,8 @@ get-there {X} [] i inside = absurd (omega (arith, inside))
 get-there {X} (x ∷ xs) zero inside = (x, refl)
 get-there {X} (x ∷ xs) (suc i) inside = get-there xs i (omega (arith, inside))
 
-all-started : (config : Config) (all : List Entry) (known : IsKnown config (world_of config all) all) → AreStarted config all known.joined.arrived
+all-started : (config : Config) (all : List Entry) (known : IsKnown config (world_of config all) all)
+    → AreStarted config all known.joined.arrived
 all-started config all known k u tail =
     let h : IsJoined config (world_of config all) all = known.joined in
     let client : IsClient config.clients k = (AreClients-tail config.clients (k ∷ u) h.arrived h.honest.clients tail).0 in
@@ -522,7 +527,8 @@ completed-in-front front rest a x numbered found earlier =
     (sym (ap (first_finished a) parts) ∙ found)) [
       | inl before ↦ before
       | inr behind ↦
-          let late : 0 + length front ≤ x.number = numbered-from (0 + length front) k rest a x (numbered-behind 0 front rest numbered) behind in
+          let late : 0 + length front ≤ x.number =
+          numbered-from (0 + length front) k rest a x (numbered-behind 0 front rest numbered) behind in
           absurd (omega (arith, late, earlier))
     ]
 
@@ -638,7 +644,8 @@ in-time config all run made none a b p has_b =
     let mine = t.early.joined.each j client in
     let begun : ℕ = length (started_among (entries_of j at.front)) in
     let most : count j soon ≤ begun =
-    lead-le config world soon j (count j soon) (count j t.early.joined.handled) mine.queue begun mine.in_step.all_committed mine.in_step.leads in
+    lead-le config world soon j (count j soon)
+    (count j t.early.joined.handled) mine.queue begun mine.in_step.all_committed mine.in_step.leads in
     let never : IsTail (j ∷ place.older) soon → ⊥ = λ tail.
     omega (
       arith,

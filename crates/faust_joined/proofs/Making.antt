@@ -137,7 +137,8 @@ begin-has config k st (deeds.Breaks notice) order body is has = absurd cc
 begin-has config k st (deeds.Answers j) order body is has = absurd cc
 begin-has config k st (deeds.Hears j known) order body is has = absurd cc
 begin-has config k st (deeds.Ticks m) order body is has =
-    has-right (map peer_body (posts_of config k st (deeds.Ticks m))) (cond (is_dummy_due config k st m) (bodies_of_begin k st (dummy_of st)) []) body
+    has-right (map peer_body (posts_of config k st (deeds.Ticks m)))
+    (cond (is_dummy_due config k st m) (bodies_of_begin k st (dummy_of st)) []) body
     (ticked-has k st (is_dummy_due config k st m) order body is has)
 
 dummy-is : (st : Client) (b : Bool) (order : Order) → cond b (Some (dummy_of st)) None ≡ Some order → dummy_of st ≡ order
@@ -173,7 +174,8 @@ opened config world front e order next h is =
     let step = (h.each i next.client).in_step in
     let deed : Deed = deed_at config i st e.input in
     let begins : begun_order config i st deed ≡ Some order =
-    sym (order-begun config i st e.input e.outcome next.step.may_come (outcome-began config i st e.input e.outcome next.step.outcome_is)) ∙ is in
+    sym (order-begun config i st e.input e.outcome next.step.may_come (outcome-began config i st e.input e.outcome next.step.outcome_is))
+    ∙ is in
     let idle : is_idle i st ≡ true =
     begun-idle config i st (event_of config i e.input) deed order (deed-tells config i st (event_of config i e.input)) begins in
     let fits : IsDeedFor config i st deed =

@@ -81,7 +81,8 @@ given-later n world arrived handled later more (g ∷ rest) on grows all = (
   given-later n world arrived handled later more rest on grows all.1,
 )
 
-pub given-one : (n : ℕ) (world : World) (arrived handled : List ℕ) (given : List Given) (g : Given) → AreGivenOf n world arrived handled given
+pub given-one : (n : ℕ) (world : World) (arrived handled : List ℕ) (given : List Given) (g : Given)
+    → AreGivenOf n world arrived handled given
     → AreOfHistory n world arrived handled (checked g.reply) → AreGivenOf n world arrived handled (given ++ g ∷ [])
 given-one n world arrived handled [] g all here = (here, tt)
 given-one n world arrived handled (x ∷ rest) g all here = (all.0, given-one n world arrived handled rest g all.1 here)
@@ -257,11 +258,13 @@ reply-of n world st arrived handled i m h now register =
     read-of n world (remembered st i m) (served st i m).state (i ∷ arrived) handled m.kind m.register now register refl refl in
     let on : IsTail arrived (i ∷ arrived) = inr (tail-refl arrived) in
     let same : (k : ℕ) → count k handled ≤ count k handled = λ k. omega arith in
-    both-of n world (i ∷ arrived) handled (known_pairs st.c (greatest st)) (tuple_pairs st.proofs read (first n world st arrived handled h) st.pending)
+    both-of n world (i ∷ arrived) handled (known_pairs st.c (greatest st))
+    (tuple_pairs st.proofs read (first n world st arrived handled h) st.pending)
     (pairs-later n world arrived handled (i ∷ arrived) handled (known_pairs st.c (greatest st)) on same
     (known-of n world st arrived handled h st.c h.in_range.c_in_range))
     (λ pair has. elim (tuples-split st.proofs read (first n world st arrived handled h) st.pending [] pair
-    (subst (λ (l : List Tuple). Has (tuple_pairs st.proofs read (first n world st arrived handled h) l) pair) (sym (append-nil st.pending)) has)) [
+    (subst (λ (l : List Tuple). Has (tuple_pairs st.proofs read (first n world st arrived handled h) l) pair)
+    (sym (append-nil st.pending)) has)) [
       | inl tuples ↦ body-later n world arrived handled (i ∷ arrived) handled pair.body on same
           (tuples-of n world st arrived handled h [] (none-of n world arrived handled) pair tuples)
       | inr rest ↦ read_of pair rest

@@ -110,7 +110,8 @@ started-here front rest e s is =
     entries_of-append i front (e ∷ rest)
     ∙ ap (λ (b : Bool). entries_of i front ++ cond b (e ∷ entries_of i rest) (entries_of i rest)) (eq-eqb i i refl) in
     ap (λ (l : List Entry). slice_get (started_among l) (length (started_among (entries_of i front)))) own
-    ∙ ap (λ (l : List Started). slice_get l (length (started_among (entries_of i front)))) (started-append (entries_of i front) (e ∷ entries_of i rest))
+    ∙ ap (λ (l : List Started). slice_get l (length (started_among (entries_of i front))))
+    (started-append (entries_of i front) (e ∷ entries_of i rest))
     ∙ next-queued (started_among (entries_of i front)) (started_among (e ∷ entries_of i rest))
     ∙ ap (λ (o : Option Started). slice_get (option_to_list o ++ started_among (entries_of i rest)) 0) is
 
@@ -266,7 +267,8 @@ numbered-before : (config : Config) (line : Line) (p : ℕ) (xs : List Entry) (q
     → first_departure_from config line xs ≡ Some q → q < p + length xs
 numbered-before config line p [] q numbered found = absurd cc
 numbered-before config line p (x ∷ xs) q numbered found =
-    number-below (departs config line x) x.number p q (length xs) (first_departure_from config (line_after config line x) xs) numbered.0 found
+    number-below (departs config line x) x.number p q (length xs)
+    (first_departure_from config (line_after config line x) xs) numbered.0 found
     (λ later. numbered-before config (line_after config line x) (suc p) xs q numbered.1 later)
 
 last-number : (p : ℕ) (xs : List Entry) (e : Entry) → AreNumbered p (xs ++ e ∷ []) → e.number ≡ p + length xs
@@ -287,7 +289,8 @@ notice-after config entries front rest e notice run made whole given =
     made-front config [] (front ++ e ∷ []) rest (subst (ArePeersMade config []) split made) in
     elim (either-none (first_departure config (front ++ e ∷ []))) [
       | inl none ↦
-          let well : IsWellGiven e = well-last front e (known-front config (front ++ e ∷ []) (front ++ e ∷ []) [] one (append-nil (front ++ e ∷ [])) made_one none).well in
+          let well : IsWellGiven e = well-last front e
+          (known-front config (front ++ e ∷ []) (front ++ e ∷ []) [] one (append-nil (front ++ e ∷ [])) made_one none).well in
           let never : Some notice ≡ None = sym given ∙ well.no_notice in
           absurd (cc never)
       | inr found ↦

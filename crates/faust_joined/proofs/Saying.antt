@@ -48,7 +48,8 @@ made-append config before [] e =
     append-nil (made_bodies config before e) ∙ ap (λ (l : List Entry). made_bodies config l e) (sym (append-nil before))
 made-append config before (x ∷ xs) e =
     ap (λ (l : List (List ℕ)). made_bodies config before x ++ l) (made-append config (before ++ x ∷ []) xs e)
-    ∙ sym (append_assoc (made_bodies config before x) (made_behind config (before ++ x ∷ []) xs) (made_bodies config ((before ++ x ∷ []) ++ xs) e))
+    ∙ sym (append_assoc (made_bodies config before x) (made_behind config (before ++ x ∷ []) xs)
+    (made_bodies config ((before ++ x ∷ []) ++ xs) e))
     ∙ ap (λ (l : List Entry). (made_bodies config before x ++ made_behind config (before ++ x ∷ []) xs) ++ made_bodies config l e)
     (append_assoc before (x ∷ []) xs)
 

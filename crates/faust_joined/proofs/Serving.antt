@@ -75,7 +75,8 @@ order-read config all front e message m input read =
     order-more config all front e
     ∙ ap (λ (x : Input). order_among config all front
     ++ option_to_list (option_and_then (name_in_order all e.client) (option_and_then (submit_in config) (arriving x)))) input
-    ∙ ap (λ (o : Option Message). order_among config all front ++ option_to_list (option_and_then (name_in_order all e.client) (as_submit o))) read
+    ∙ ap (λ (o : Option Message). order_among config all front
+    ++ option_to_list (option_and_then (name_in_order all e.client) (as_submit o))) read
 
 order-commit : (config : Config) (all front : List Entry) (e : Entry) (message : List ℕ) (c : Commit) → e.input ≡ inputs.Arrive message
     → message_of config.wire config.clients message ≡ Some (messages.Commit c)
@@ -108,7 +109,8 @@ order-submit config world all front e message m arrived input read taken due so_
     ∙ ap (λ (x : Kind). last (suc (count i arrived)) (test x (suc (count i arrived)))) kind
 
 -- A message is the first that waits.
-record IsFirst (config : Config) (world : World) (front : List Entry) (e : Entry) (message : List ℕ) (arrived handled : List ℕ) (s : Sent) : Type
+record IsFirst (config : Config) (world : World) (front : List Entry) (e : Entry) (message : List ℕ) (arrived handled : List ℕ)
+    (s : Sent) : Type
     0 where
   rest : List Sent
   gone : List (List ℕ)
@@ -141,7 +143,8 @@ submit-joined config world front e message sized client step input h m spelled f
     line-arrived config front e message (messages.Submit m) input read ∙ ap (line_served before i) next.row in
     let now : List ℕ = i ∷ h.arrived in
     let after : List ℕ = handled_with i h.handled m.commit in
-    let mine : IsClientJoined config world now (count i after) i (own ++ e ∷ []) (given_to i before.given ++ reply ∷ []) (times_of i before.handed) =
+    let mine : IsClientJoined config world now (count i after) i (own ++ e ∷ []) (given_to i before.given ++ reply ∷ [])
+    (times_of i before.handed) =
     arrived-one config world now (count i after) i own (given_to i before.given ++ reply ∷ []) (times_of i before.handed) e message
     first.gone (submits m) first.rest input step.outcome_is first.sent_is first.counted
     (submitted-in_step config world h.arrived h.handled (length (started_among own)) i (replay config i own) m first.rest
@@ -172,7 +175,8 @@ submit-joined config world front e message sized client step input h m spelled f
           (λ said range has. quiet-more n h.arrived i said.peer (h.quiet said range has)) (λ said range has. absurd has);
       given = subst (λ (l : Line). AreGivenOf n world now after l.given) (sym line_is)
           (given-one n world now after before.given _
-          (given-later n world h.arrived h.handled now after before.given (inr (tail-refl h.arrived)) (taken-more i h.handled m.commit) h.given)
+          (given-later n world h.arrived h.handled now after before.given (inr (tail-refl h.arrived))
+          (taken-more i h.handled m.commit) h.given)
           next.of_history);
     } in
     record {
@@ -199,7 +203,8 @@ commit-joined config world front e message sized client step input h c spelled f
     let line_is : line_of config (front ++ e ∷ []) ≡ line =
     line-arrived config front e message (messages.Commit c) input read ∙ ap (line_settled before) taken.1 in
     let after : List ℕ = i ∷ h.handled in
-    let mine : IsClientJoined config world h.arrived (count i after) i (own ++ e ∷ []) (given_to i before.given) (times_of i before.handed) =
+    let mine : IsClientJoined config world h.arrived (count i after) i (own ++ e ∷ []) (given_to i before.given)
+    (times_of i before.handed) =
     arrived-one config world h.arrived (count i after) i own (given_to i before.given) (times_of i before.handed) e message
     first.gone (commits c) first.rest input step.outcome_is first.sent_is first.counted
     (committed-in_step config world h.arrived h.handled (length (started_among own)) i (replay config i own) c first.rest
@@ -220,12 +225,14 @@ commit-joined config world front e message sized client step input h c spelled f
       handled = after;
       honest = subst (λ (l : Line). IsHonest n world l.server h.arrived after) (sym line_is) taken.2;
       each = subst (λ (l : Line). (k : ℕ) → IsClient n k
-          → IsClientJoined config world h.arrived (count k after) k (entries_of k (front ++ e ∷ [])) (given_to k l.given) (times_of k l.handed))
+          → IsClientJoined config world h.arrived (count k after) k (entries_of k (front ++ e ∷ [])) (given_to k l.given)
+          (times_of k l.handed))
           (sym line_is) each;
       quiet = quiet-one config front e h.arrived deeds.Ignores client (arrival-ignored config i (replay config i own) e.input message input)
           h.quiet (λ said range has. absurd has);
       given = subst (λ (l : Line). AreGivenOf n world h.arrived after l.given) (sym line_is)
-          (given-later n world h.arrived h.handled h.arrived after before.given (tail-refl h.arrived) (λ k. count-le-cons k i h.handled) h.given);
+          (given-later n world h.arrived h.handled h.arrived after before.given (tail-refl h.arrived)
+          (λ k. count-le-cons k i h.handled) h.given);
     } in
     record {
       joined = joined;

@@ -240,11 +240,13 @@ replied-told config world front e later bytes next h on told is k client =
     let finished : finished_among (entries_of i (front ++ e ∷ [])) ≡ finished_among (entries_of i front) ++ x ∷ [] =
     ap finished_among (entries_of-own i front e refl) ∙ finished-one (entries_of i front) e
     ∙ ap (λ (l : List Finished). finished_among (entries_of i front) ++ l) more.1 in
-    let Told : ℕ → List ℕ → Type 0 = λ (j : ℕ) (l : List ℕ). AreTold world later j (finished_among (entries_of j (front ++ e ∷ []))) (times_of j l) in
+    let Told : ℕ → List ℕ → Type 0 = λ (j : ℕ) (l : List ℕ). AreTold world later j (finished_among (entries_of j (front ++ e ∷ [])))
+    (times_of j l) in
     elim (cases_eq i k) [
       | inl own ↦ subst (λ (j : ℕ). Told j (line_of config (front ++ e ∷ [])).handed) own
           (subst (Told i) (sym line_is)
-          (subst (λ (t : ℕ). AreTold world later i (finished_among (entries_of i (front ++ e ∷ []))) t) (sym (times-own i i before.handed refl))
+          (subst (λ (t : ℕ). AreTold world later i (finished_among (entries_of i (front ++ e ∷ []))) t)
+          (sym (times-own i i before.handed refl))
           (subst (λ (l : List Finished). AreTold world later i l (suc handed)) (sym finished) mine)))
       | inr apart ↦ subst (Told k) (sym line_is)
           (subst (λ (t : ℕ). AreTold world later k (finished_among (entries_of k (front ++ e ∷ []))) t)

@@ -82,7 +82,8 @@ arrival-spelled st now count i bytes view h same_count arrival =
     let Counted : LiarState → Type 0 = λ z. IsClientCount (session_count z) in
     subst (λ (w : ℕ). IsSpelled w count bytes) (ap (λ (z : LiarState). z.wire) (sym view))
     (subst (λ (n : ℕ). IsSpelled now.wire n bytes) (sym same_count)
-    (spelled-by now.wire (session_count now) bytes arrival.message (subst Known view h.wire_known) (subst Counted view h.count) arrival.spelled))
+    (spelled-by now.wire (session_count now) bytes arrival.message (subst Known view h.wire_known)
+    (subst Counted view h.count) arrival.spelled))
 
 if-there : (P : Message → Type 0) (o : Option Message) → ((m : Message) → o ≡ Some m → P m) → IfSome o P
 if-there P None each = tt
@@ -138,7 +139,10 @@ module _ (st now : LiarState) (view : st ≡ now) (h : IsLiarState st) (i at : �
   taken-is after is =
       ap (λ (z : Session). record st { sessions = slice_set st.sessions (at - 1) z })
       (is ∙ ap (λ (z : Session). record z { taken = z.taken + 1 }) session-is)
-      ∙ ap (λ (k : ℕ). record st { sessions = slice_set st.sessions (k - 1) (record (session_at st i) { taken = (session_at st i).taken + 1 }) })
+      ∙ ap (λ (k : ℕ). record st {
+        sessions =
+            slice_set st.sessions (k - 1) (record (session_at st i) { taken = (session_at st i).taken + 1 });
+      })
       from
       ∙ ap (λ (z : LiarState). one_taken z i) view
 
@@ -153,7 +157,8 @@ module _ (st now : LiarState) (view : st ≡ now) (h : IsLiarState st) (i at : �
       let P : LiarState → Type 0 = λ z. IsForServer (session_count z) i m in
       let Q : LiarState → Type 0 = λ z. IsClientCount (session_count z) in
       subst P (sym view)
-      (arrival-message wire count i now bytes m (subst Q view h.count) (same_wire ∙ ap (λ (z : LiarState). z.wire) view) same_count arrival found)
+      (arrival-message wire count i now bytes m (subst Q view h.count) (same_wire
+      ∙ ap (λ (z : LiarState). z.wire) view) same_count arrival found)
 
   -- a reply that is read, and a message that arrived
   pub replies-range : (k count : ℕ) → count ≡ session_count now → IfSome (nth k s.replies) (IsAnswer count)
@@ -223,7 +228,8 @@ module _ (st now : LiarState) (view : st ≡ now) (h : IsLiarState st) (i at : �
       (received-in_range n (length st.branches) i s m (handled branch i m).reply session-range message
       (handled-reply n branch i m own client-here message)) session-range in
       let moved_on = kept-branch n st route after_branch h branch_ok in
-      let length_same : length (slice_set st.branches route after_branch) ≡ length st.branches = length-set st.branches route after_branch in
+      let length_same : length (slice_set st.branches route after_branch) ≡ length st.branches =
+      length-set st.branches route after_branch in
       let Q : ℕ → Type 0 = λ len. IsSessionFor n len i after in
       let R : ℕ → Type 0 = λ k. IsLiarState (with_at st route after_branch k after) in
       subst R (sym from) (IsLiarState-for n (with_at st route after_branch i after)

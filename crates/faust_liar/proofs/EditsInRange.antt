@@ -395,7 +395,10 @@ module _ (n : ℕ) (reply : Reply) (h : IsReplyFor n reply) where
   by-version : (known : Option Known) → IfSome known (IsSignedBy n reply.c)
       → IfSome (option_map (λ (known : Known). record reply { version = known }) known) IsSignedReply
   by-version known own = map-range (IsSignedBy n reply.c) IsSignedReply (λ (known : Known). record reply { version = known })
-      (λ known signed. record { reply_in_range = reply-version n reply known h signed.known_by; not_initial = signed.not_initial }) known own
+      (λ known signed. record {
+        reply_in_range = reply-version n reply known h signed.known_by;
+        not_initial = signed.not_initial;
+      }) known own
 
   by-pending : (pending : Option (List Tuple)) → IfSome pending (ArePendingFor n)
       → IfSome (option_map (λ (pending : List Tuple). record reply { pending = pending }) pending) (IsReplyFor n)
@@ -424,7 +427,8 @@ module _ (n : ℕ) (reply : Reply) (h : IsReplyFor n reply) where
   signed-read edited own = own.reply_in_range
 
   v-range : (k t : ℕ) → IsClient n k → IsOperationNumber t → IfSome (edited_reply (edits.V k t) reply) IsSignedReply
-  v-range k t client number = by-version (retimed k t reply.version) (retimed-range n reply.c k t reply.version h.version_known client number)
+  v-range k t client number = by-version (retimed k t reply.version)
+      (retimed-range n reply.c k t reply.version h.version_known client number)
 
   m-range : (k : ℕ) → IsClient n k → IfSome (edited_reply (edits.M k) reply) IsSignedReply
   m-range k client = by-version (redigested k reply.version) (redigested-range n reply.c k reply.version h.version_known client)
@@ -434,7 +438,8 @@ module _ (n : ℕ) (reply : Reply) (h : IsReplyFor n reply) where
       (version_changed-range n (retimed k t) (λ j known own. retimed-range n j k t known own client number) reply.read h.read_in_range)
 
   pub edited-range : (edit : Edit) → IsEditFor n edit → IfSome (edited_reply edit reply) (IsReplyFor n)
-  edited-range (edits.C k) fits = reply-c n k reply (made_by k reply.version) h fits (made_by-range n reply.c k reply.version h.version_known)
+  edited-range (edits.C k) fits = reply-c n k reply (made_by k reply.version) h fits
+      (made_by-range n reply.c k reply.version h.version_known)
   edited-range (edits.V k t) fits = weaker IsSignedReply (IsReplyFor n) signed-reply _ (v-range k t fits.0 fits.1)
   edited-range (edits.M k) fits = weaker IsSignedReply (IsReplyFor n) signed-reply _ (m-range k fits)
   edited-range edits.Ctag fits = weaker IsSignedReply (IsReplyFor n) signed-reply _
@@ -450,7 +455,8 @@ module _ (n : ℕ) (reply : Reply) (h : IsReplyFor n reply) where
   edited-range edits.Jtag fits = weaker IsSignedRead (IsReplyFor n) signed-read _ (by-signed (version_changed retagged reply.read)
       (version_changed-range n retagged (λ j known own. retagged-range n j known own) reply.read h.read_in_range))
   edited-range (edits.T t) fits = by-read _ (mem_changed-range n (mem_at t) (mem_at-range t fits) reply.read h.read_in_range)
-  edited-range (edits.Value value) fits = by-read _ (mem_changed-range n (mem_with value) (mem_with-range value fits) reply.read h.read_in_range)
+  edited-range (edits.Value value) fits =
+      by-read _ (mem_changed-range n (mem_with value) (mem_with-range value fits) reply.read h.read_in_range)
   edited-range edits.Dtag fits = by-read _ (mem_changed-range n mem_retagged mem_retagged-range reply.read h.read_in_range)
   edited-range edits.Unread fits = without_read-range n reply h reply.read
 

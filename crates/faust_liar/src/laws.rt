@@ -24,8 +24,8 @@ pub fn branches_are_never_out_of_turn()
 /// Where the message is in turn, setting the turn changes nothing: a branch that saw all messages of its clients in
 /// order is the honest server.
 pub fn in_turn_branches_are_honest()
-    ensures submit { (n : ℕ) (st : State) (i : ℕ) (m : Submit) (given : Served) → IsStateFor n st → IsClient n i → IsSubmitFor n m → IsBehind i m m.commit →
-        submitted st i m ≡ Ok given → given ≡ answered st i m }
+    ensures submit { (n : ℕ) (st : State) (i : ℕ) (m : Submit) (given : Served) → IsStateFor n st → IsClient n i → IsSubmitFor n m →
+        IsBehind i m m.commit → submitted st i m ≡ Ok given → given ≡ answered st i m }
     ensures commit { (n : ℕ) (st after : State) (i : ℕ) (m : Commit) → IsStateFor n st → IsClient n i → IsCommitFor n m →
         committed st i m ≡ Ok after → after ≡ after_commit st i m }
 {}

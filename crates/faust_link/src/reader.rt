@@ -97,7 +97,8 @@ impl<S: Source> FrameReader<S> {
         ensures faults { Counts result self.old.faults self.new.faults }
         ensures ends { CountsHeld result self.old.ends self.new.ends }
         ensures bytes { HoldsNext (left_of S.left self.old) (left_of S.left self.new) self.new.held result }
-        ensures cause { OnErr result (RecvFails self.old.is_open (left_of S.left self.old) (S.faults self.old.source) (S.faults self.new.source)) }
+        ensures cause { OnErr result (RecvFails self.old.is_open (left_of S.left self.old) (S.faults self.old.source)
+            (S.faults self.new.source)) }
         ensures shut { OnErr result (self.new.is_open ≡ false) }
         ensures open { OnOk result (self.old.is_open ≡ true) }
     {

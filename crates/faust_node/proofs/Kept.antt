@@ -121,8 +121,10 @@ pub kept-taken : (config : Config) (log new : Log) (seat after : SeatView) (clos
 kept-taken config log new seat after closed number input kept awake free after_is taken =
     let cell : Cell = record { log = log; seat = seat; closed = closed } in
     let entry : Entry = entry_at log.config log.me (held_by log) number input in
-    let longer : new ≡ logged log entry = ok-same new (logged log entry) (step_of log number input) taken (free-step log number input free) in
-    kept-stepped config log new seat after closed entry kept awake (spare-left config cell kept awake (few-entries log input free)) longer after_is
+    let longer : new ≡ logged log entry = ok-same new (logged log entry) (step_of log number input) taken
+    (free-step log number input free) in
+    kept-stepped config log new seat after closed entry kept awake
+    (spare-left config cell kept awake (few-entries log input free)) longer after_is
 
 pub kept-refused : (config : Config) (log new : Log) (seat after : SeatView) (closed : Option Closing) (number : ℕ) (input : Input)
     (e : StepError) → IsCell config (record { log = log; seat = seat; closed = closed }) → (closed ≡ Some closings.Memory → ⊥)

@@ -39,7 +39,8 @@ input-same config me st (inputs.Write value) =
     ap (λ (r : Option StepError). cond (nat_le (length value) 4096) r (Some steps.TooLong)) (begin-same st.notice (is_idle me st))
     ∙ inside (nat_le (length value) 4096) (client.begin_refused_by st.notice (is_idle me st)) (Some refusals.TooLong)
 input-same config me st (inputs.Read register) =
-    ap (λ (r : Option StepError). cond (is_register config.clients register) r (Some steps.NoRegister)) (begin-same st.notice (is_idle me st))
+    ap (λ (r : Option StepError). cond (is_register config.clients register) r (Some steps.NoRegister))
+    (begin-same st.notice (is_idle me st))
     ∙ inside (is_register config.clients register) (client.begin_refused_by st.notice (is_idle me st)) (Some refusals.NoRegister)
 input-same config me st (inputs.Reply bytes) = refl
 input-same config me st (inputs.Peer bytes) = refl
@@ -59,11 +60,13 @@ refused-step log input e is number =
     let st = held_by log in
     let refusal : Option Refusal = refusal_at log.config log.me st input in
     let same : cond (nat_lt (length log.entries) 200000) (as_refused refusal) (Some steps.Full) ≡ Some e =
-    sym (ap (λ (r : Option StepError). cond (nat_lt (length log.entries) 200000) r (Some steps.Full)) (input-same log.config log.me st input)) ∙ is in
+    sym (ap (λ (r : Option StepError). cond (nat_lt (length log.entries) 200000) r (Some steps.Full))
+    (input-same log.config log.me st input)) ∙ is in
     refused-at (nat_lt (length log.entries) 200000) log (entry_at log.config log.me st number input) refusal e same
 
 free-at : (b : Bool) (log : Log) (entry : Entry) (refusal : Option Refusal)
-    → cond b (as_refused refusal) (Some steps.Full) ≡ None → cond b (logged_unless log entry refusal) (Err steps.Full) ≡ Ok (logged log entry)
+    → cond b (as_refused refusal) (Some steps.Full) ≡ None
+    → cond b (logged_unless log entry refusal) (Err steps.Full) ≡ Ok (logged log entry)
 free-at true log entry None is = refl
 free-at true log entry (Some refusal) is = absurd (cc)
 free-at false log entry refusal is = absurd (cc)
@@ -75,7 +78,8 @@ free-step log number input is =
     let st = held_by log in
     let refusal : Option Refusal = refusal_at log.config log.me st input in
     let same : cond (nat_lt (length log.entries) 200000) (as_refused refusal) (Some steps.Full) ≡ None =
-    sym (ap (λ (r : Option StepError). cond (nat_lt (length log.entries) 200000) r (Some steps.Full)) (input-same log.config log.me st input)) ∙ is in
+    sym (ap (λ (r : Option StepError). cond (nat_lt (length log.entries) 200000) r (Some steps.Full))
+    (input-same log.config log.me st input)) ∙ is in
     free-at (nat_lt (length log.entries) 200000) log (entry_at log.config log.me st number input) refusal same
 
 -- what is refused stays
@@ -128,7 +132,8 @@ step-never log input is =
     (input-never log.config log.me (held_by log) input) full-never is
 
 -- what a cell answers where its journal refuses a step
-pub cell-refuses : (e : StepError) (old new : Cell) (input : Input) → step_refused old.log input ≡ Some e → new ≡ old → Refuses e old new input
+pub cell-refuses : (e : StepError) (old new : Cell) (input : Input) → step_refused old.log input ≡ Some e → new ≡ old
+    → Refuses e old new input
 cell-refuses steps.Full old new input is same = record { refused = refused-step old.log input steps.Full is; same = same }
 cell-refuses steps.TooLong old new input is same = record { refused = refused-step old.log input steps.TooLong is; same = same }
 cell-refuses steps.NoRegister old new input is same = record { refused = refused-step old.log input steps.NoRegister is; same = same }

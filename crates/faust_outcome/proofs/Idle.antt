@@ -56,7 +56,10 @@ idle-gathered command it first second range two is_first is_second journals arri
     let none : length it.arrivals ≡ 0 = ap (length {A = Arrival}) arrivals in
     let empty : gathered it.journals it.arrivals ≡ [] =
     ap (λ (l : List Log). gathered l it.arrivals) journals ∙ ap (gathered logs) arrivals in
-    let kept : AreJournals logs = (empty-journal command first range two is_first, (empty-journal command second range two is_second, tt)) in
+    let kept : AreJournals logs = (
+      empty-journal command first range two is_first,
+      (empty-journal command second range two is_second, tt),
+    ) in
     let one_config : AreOfConfig (config_of command) logs = (refl, (refl, tt)) in
     record {
       as_many = ap (length {A = Log}) journals ∙ sym two;

@@ -174,9 +174,11 @@ entry-changes config me st entry count client kept step own =
     ∙ order-begun config me st entry.input entry.outcome step.may_come
     (outcome-began config me st entry.input entry.outcome step.outcome_is) in
     let answer : entry.outcome.answer ≡ answer_of deed = outcome-answer config me st entry.input entry.outcome step.outcome_is in
-    let change = deed-changes config me st event deed client kept fits tells does (λ order came. own-order config me entry.input order came) in
+    let change = deed-changes config me st event deed client kept fits tells does
+    (λ order came. own-order config me entry.input order came) in
     record {
-      change = subst (λ (now : Client). Change config.clients me st now (order_in entry.client entry.input entry.outcome) entry.outcome.answer)
+      change =
+          subst (λ (now : Client). Change config.clients me st now (order_in entry.client entry.input entry.outcome) entry.outcome.answer)
           (sym here)
           (subst (λ (o : Option Order). Change config.clients me st (after config me st deed) o entry.outcome.answer) (sym order)
           (subst (λ (a : Option Answer). Change config.clients me st (after config me st deed) (begun_order config me st deed) a)

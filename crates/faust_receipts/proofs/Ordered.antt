@@ -172,7 +172,8 @@ along config me t st pending (entry ∷ rest) count client kept obeys by counted
 first-count : (n me : ℕ) → IsClient n me → completed_count me (first_client n me) + 1 ≡ 1
 first-count n me client =
     let version : version_at (first_client n me) me ≡ initial n =
-    ap (λ (known : Known). known.version) (get_or-replicate n (me - 1) (unmade n) (unmade 0) (omega (arith, client.from_one, client.to_n))) in
+    ap (λ (known : Known). known.version) (get_or-replicate n (me - 1) (unmade n) (unmade 0)
+    (omega (arith, client.from_one, client.to_n))) in
     ap (λ (k : ℕ). k + 1)
     (ap (λ (v : Vector). timestamp_at v me) version
     ∙ get_or-replicate n (me - 1) 0 0 (omega (arith, client.from_one, client.to_n)))

@@ -77,7 +77,8 @@ compared-one receipt rest later dues u None is same =
     cond-false _ _ _ (not-none receipt.number receipt.answer)
     ∙ sym (ap (first_difference (receipt ∷ rest)) (get-drop-none dues u is))
 compared-one receipt rest later dues u (Some finished) is same =
-    ap (λ (o : Option (List ℕ)). cond (bytes_eq (told_line receipt) (due_line (Some finished))) o (Some (differs_line receipt (Some finished)))) same
+    ap (λ (o : Option (List ℕ)). cond (bytes_eq (told_line receipt) (due_line (Some finished))) o
+    (Some (differs_line receipt (Some finished)))) same
     ∙ sym (ap (first_difference (receipt ∷ rest)) (get-drop-some dues u finished is))
 
 compared : (entries : List Entry) (i : ℕ) (dues : List Finished) → ((u : ℕ) → user_completion entries i u ≡ slice_get dues u)
@@ -131,7 +132,8 @@ user-wrong config entries all k receipts d line text run counted within is due s
     ∙ sym (next-user config entries all k receipts d run counted within is
     ∙ ap (λ (o : Option (List ℕ)). or_later o (first_differing_of entries ((k + 1) + 1) (drop (k + 1) all))) (sym due ∙ some))
 
-pub no-more : (entries : List Entry) (i k : ℕ) (all : List (List Receipt)) → length all ≤ k → first_differing_of entries i (drop k all) ≡ None
+pub no-more : (entries : List Entry) (i k : ℕ) (all : List (List Receipt)) → length all ≤ k
+    → first_differing_of entries i (drop k all) ≡ None
 no-more entries i k all past = ap (first_differing_of entries i) (drop_all k all past)
 
 -- one receipt of a user

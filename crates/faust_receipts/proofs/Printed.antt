@@ -114,9 +114,21 @@ answer-ext : (a b : Answer) → a.op.name ≡ b.op.name → a.op.kind ≡ b.op.k
     → a.value ≡ b.value → a.asof ≡ b.asof → a ≡ b
 answer-ext a b name kind register dummy value asof =
     ap (λ (x : OpName). record a { op = record a.op { name = x } }) name
-    ∙ ap (λ (x : Kind). record { op = record { name = b.op.name; kind = x; register = a.op.register; dummy = a.op.dummy }; value = a.value; asof = a.asof }) kind
-    ∙ ap (λ (x : ℕ). record { op = record { name = b.op.name; kind = b.op.kind; register = x; dummy = a.op.dummy }; value = a.value; asof = a.asof }) register
-    ∙ ap (λ (x : Bool). record { op = record { name = b.op.name; kind = b.op.kind; register = b.op.register; dummy = x }; value = a.value; asof = a.asof }) dummy
+    ∙ ap (λ (x : Kind). record {
+      op = record { name = b.op.name; kind = x; register = a.op.register; dummy = a.op.dummy };
+      value = a.value;
+      asof = a.asof;
+    }) kind
+    ∙ ap (λ (x : ℕ). record {
+      op = record { name = b.op.name; kind = b.op.kind; register = x; dummy = a.op.dummy };
+      value = a.value;
+      asof = a.asof;
+    }) register
+    ∙ ap (λ (x : Bool). record {
+      op = record { name = b.op.name; kind = b.op.kind; register = b.op.register; dummy = x };
+      value = a.value;
+      asof = a.asof;
+    }) dummy
     ∙ ap (λ (x : Option (List ℕ)). record { op = b.op; value = x; asof = a.asof }) value
     ∙ ap (λ (x : ℕ). record { op = b.op; value = b.value; asof = x }) asof
 
@@ -170,7 +182,8 @@ kinds-one a b Read Read is also one two n m fits fits_too h =
     let last = back-one 32 (value_text a.value ++ (32 ∷ codes "asof")) (value_text b.value ++ (32 ∷ codes "asof")) (decimal a.asof)
     (decimal b.asof) (number-without 32 a.asof (omega arith) fits.asof_fits) (number-without 32 b.asof (omega arith) fits_too.asof_fits)
     grouped in
-    let value = back-one 32 (value_text a.value) (value_text b.value) (codes "asof") (codes "asof") without-word.2 without-word.2 last.front in
+    let value = back-one 32 (value_text a.value) (value_text b.value) (codes "asof")
+    (codes "asof") without-word.2 without-word.2 last.front in
     record {
       same_kind = is ∙ sym also;
       same_register = register-one a.op.register b.op.register fits.register_fits fits_too.register_fits more.front;

@@ -32,7 +32,8 @@ pub user-short : (entries : List Entry) (ops k : ℕ) (all : List (List Receipt)
     → first_short entries ops (k + 1) (drop k all) ≡ Some (short_line (k + 1) (length receipts) ops)
 user-short entries ops k all receipts d within is short = next-short entries ops k all receipts d within is ∙ cond-true _ _ _ short
 
-pub no-user : (entries : List Entry) (ops i k : ℕ) (all : List (List Receipt)) → length all ≤ k → first_short entries ops i (drop k all) ≡ None
+pub no-user : (entries : List Entry) (ops i k : ℕ) (all : List (List Receipt)) → length all ≤ k
+    → first_short entries ops i (drop k all) ≡ None
 no-user entries ops i k all past = ap (first_short entries ops i) (drop_all k all past)
 
 -- the entries from one on, and those behind it

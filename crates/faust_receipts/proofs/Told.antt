@@ -29,13 +29,15 @@ of-entry : (entry : Entry) (own : List Entry) (b : Bool) (answer : Option Answer
     → option_to_list (cond b (unless_dummy entry.number answer) None) ++ rest ≡ user_finished (finished_among (cond b (entry ∷ own) own))
 of-entry entry own false answer rest is same = same
 of-entry entry own true None rest is same =
-    same ∙ sym (ap (λ (a : Option Answer). user_finished (option_to_list (option_map (λ (x : Answer). record { answer = x; number = entry.number }) a)
+    same ∙ sym (ap (λ (a : Option Answer). user_finished
+    (option_to_list (option_map (λ (x : Answer). record { answer = x; number = entry.number }) a)
     ++ finished_among own)) is)
 of-entry entry own true (Some answer) rest is same =
     let f : Finished = record { answer = answer; number = entry.number } in
     ap (λ (l : List Finished). option_to_list (cond answer.op.dummy None (Some f)) ++ l) same
     ∙ with-more answer.op.dummy f (user_finished (finished_among own))
-    ∙ sym (ap (λ (a : Option Answer). user_finished (option_to_list (option_map (λ (x : Answer). record { answer = x; number = entry.number }) a)
+    ∙ sym (ap (λ (a : Option Answer). user_finished
+    (option_to_list (option_map (λ (x : Answer). record { answer = x; number = entry.number }) a)
     ++ finished_among own)) is)
 
 pub told-own : (i : ℕ) (entries : List Entry) → told_among i entries ≡ user_finished (finished_among (entries_of i entries))

@@ -72,14 +72,17 @@ unfolding tokens_of
 key_spelled = (refl, ((field_spells key_field (codes "00") (0 ∷ [])).0 key_00, tt))
 
 key_read : (f : Formats) (n : ℕ) → text_at (stages.Head (heads.Key f n)) (codes "key 00") ≡ Ok (stages.Head (heads.Delta f n (0 ∷ [])))
-key_read f n = head_line_read (heads.Key f n) (Next (heads.Delta f n (0 ∷ []))) (codes "key 00") (head_step script_form (heads.Key f n) (tokens_of (codes "key 00")) (tt, (0 ∷ [], tt)) key_spelled)
+key_read f n = head_line_read (heads.Key f n) (Next (heads.Delta f n (0 ∷ []))) (codes "key 00")
+    (head_step script_form (heads.Key f n) (tokens_of (codes "key 00")) (tt, (0 ∷ [], tt)) key_spelled)
 
-delta_read : (f : Formats) (n : ℕ) (key : List ℕ) → text_at (stages.Head (heads.Delta f n key)) (codes "delta 1") ≡ Ok (stages.Head (heads.Dummy f n key 1))
+delta_read : (f : Formats) (n : ℕ) (key : List ℕ)
+    → text_at (stages.Head (heads.Delta f n key)) (codes "delta 1") ≡ Ok (stages.Head (heads.Dummy f n key 1))
 unfolding text_at head_at tokens_of field_at
 delta_read f n key = refl
 
 dummy_read : (f : Formats) (n : ℕ) (key : List ℕ) (delta : ℕ)
-    → text_at (stages.Head (heads.Dummy f n key delta)) (codes "dummy 1") ≡ Ok (stages.Events (empty_script f.text (config_of f n key delta 1)))
+    → text_at (stages.Head (heads.Dummy f n key delta)) (codes "dummy 1")
+    ≡ Ok (stages.Events (empty_script f.text (config_of f n key delta 1)))
 unfolding text_at head_at tokens_of field_at
 dummy_read f n key delta = refl
 
@@ -94,7 +97,8 @@ one_more : (stage next : Stage) (number : ℕ) (text : List ℕ) (texts : List (
 one_more stage next number text texts script few read rest = step_found stage next number text (ended_lines texts) few read ∙ rest
 
 from_events_on : (s : Script) (number : ℕ) → lines_from (stages.Events s) number (ended_lines (end_text ∷ [])) ≡ Ok s
-from_events_on s number = one_more (stages.Events s) (stages.Ended s) number end_text [] s (lit≤ tt) (end_read s) (ended_found s (number + 1))
+from_events_on s number = one_more (stages.Events s) (stages.Ended s) number end_text [] s (lit≤ tt) (end_read s)
+    (ended_found s (number + 1))
 
 abbrev last_script : Formats → ℕ → List ℕ → ℕ → Script
 last_script f n key delta = empty_script f.text (config_of f n key delta 1)
@@ -111,12 +115,14 @@ from_delta_on f n key number =
     one_more (stages.Head (heads.Delta f n key)) (stages.Head (heads.Dummy f n key 1)) number (codes "delta 1") from_dummy
     (last_script f n key 1) (lit≤ tt) (delta_read f n key) (from_dummy_on f n key 1 (number + 1))
 
-from_key_on : (f : Formats) (n number : ℕ) → lines_from (stages.Head (heads.Key f n)) number (ended_lines from_key) ≡ Ok (last_script f n (0 ∷ []) 1)
+from_key_on : (f : Formats) (n number : ℕ)
+    → lines_from (stages.Head (heads.Key f n)) number (ended_lines from_key) ≡ Ok (last_script f n (0 ∷ []) 1)
 from_key_on f n number =
     one_more (stages.Head (heads.Key f n)) (stages.Head (heads.Delta f n (0 ∷ []))) number (codes "key 00") from_delta
     (last_script f n (0 ∷ []) 1) (lit≤ tt) (key_read f n) (from_delta_on f n (0 ∷ []) (number + 1))
 
-from_clients_on : (f : Formats) (number : ℕ) → lines_from (stages.Head (heads.Clients f)) number (ended_lines from_clients) ≡ Ok (last_script f 2 (0 ∷ []) 1)
+from_clients_on : (f : Formats) (number : ℕ)
+    → lines_from (stages.Head (heads.Clients f)) number (ended_lines from_clients) ≡ Ok (last_script f 2 (0 ∷ []) 1)
 from_clients_on f number =
     one_more (stages.Head (heads.Clients f)) (stages.Head (heads.Key f 2)) number (codes "clients 2") from_key
     (last_script f 2 (0 ∷ []) 1) (lit≤ tt) (clients_read f) (from_key_on f 2 (number + 1))
@@ -124,20 +130,25 @@ from_clients_on f number =
 completes : (stage : Stage) (number : ℕ) → Completes stage number
 completes (stages.Head heads.Title) number = record {
   script = last_script first_formats 2 (0 ∷ []) 1;
-  read = one_more start (stages.Head (heads.Clients first_formats)) number (codes "faust 1") from_clients (last_script first_formats 2 (0 ∷ []) 1)
+  read = one_more start (stages.Head (heads.Clients first_formats)) number (codes "faust 1") from_clients
+      (last_script first_formats 2 (0 ∷ []) 1)
       (lit≤ tt) title_read (from_clients_on first_formats (number + 1));
 }
 completes (stages.Head heads.Wire) number =
     let f : Formats = record { text = 2; wire = 1 } in
     record {
       script = last_script f 2 (0 ∷ []) 1;
-      read = one_more (stages.Head heads.Wire) (stages.Head (heads.Clients f)) number (codes "wire 1") from_clients (last_script f 2 (0 ∷ []) 1)
+      read = one_more (stages.Head heads.Wire) (stages.Head (heads.Clients f)) number (codes "wire 1") from_clients
+          (last_script f 2 (0 ∷ []) 1)
           (lit≤ tt) wire_read (from_clients_on f (number + 1));
     }
 completes (stages.Head (heads.Clients f)) number = record { script = last_script f 2 (0 ∷ []) 1; read = from_clients_on f number }
 completes (stages.Head (heads.Key f n)) number = record { script = last_script f n (0 ∷ []) 1; read = from_key_on f n number }
 completes (stages.Head (heads.Delta f n key)) number = record { script = last_script f n key 1; read = from_delta_on f n key number }
-completes (stages.Head (heads.Dummy f n key delta)) number = record { script = last_script f n key delta; read = from_dummy_on f n key delta number }
+completes (stages.Head (heads.Dummy f n key delta)) number = record {
+  script = last_script f n key delta;
+  read = from_dummy_on f n key delta number;
+}
 completes (stages.Events s) number = record { script = s; read = from_events_on s number }
 completes (stages.Ended s) number = record { script = s; read = ended_found s number }
 
@@ -208,20 +219,27 @@ texts_read (line ∷ lines) stage last none found =
       without = (subst HasNoFeed whole.0 none.0, more.without);
     }
 
-without-append : (xs ys : List (List ℕ)) → AllByRecursion (IsWithout 10) xs → AllByRecursion (IsWithout 10) ys → AllByRecursion (IsWithout 10) (xs ++ ys)
+without-append : (xs ys : List (List ℕ)) → AllByRecursion (IsWithout 10) xs → AllByRecursion (IsWithout 10) ys
+    → AllByRecursion (IsWithout 10) (xs ++ ys)
 without-append [] ys left right = right
 without-append (x ∷ xs) ys left right = (left.0, without-append xs ys left.1 right)
 
-parsed_by : (bytes : List ℕ) (front more : List TextLine) (last : Stage) (script : Script) → lines_of bytes ≡ front ++ more → reached start front ≡ Ok last → lines_from last (1 + length front) more ≡ Ok script → parsed bytes ≡ Ok script
+parsed_by : (bytes : List ℕ) (front more : List TextLine) (last : Stage) (script : Script) → lines_of bytes ≡ front ++ more
+    → reached start front ≡ Ok last → lines_from last (1 + length front) more ≡ Ok script → parsed bytes ≡ Ok script
 unfolding parsed
-parsed_by bytes front more last script are found rest = ap (lines_from start 1) are ∙ (lines_from-behind front more start last 1 found ∙ rest)
+parsed_by bytes front more last script are found rest = ap (lines_from start 1) are
+    ∙ (lines_from-behind front more start last 1 found ∙ rest)
 
-refused_by : (bytes : List ℕ) (front more : List TextLine) (last : Stage) (cause : Cause) → lines_of bytes ≡ front ++ more → reached start front ≡ Ok last → IsRefusedThere last more cause → parsed bytes ≡ Err (record { line = 1 + length front; cause = cause })
+refused_by : (bytes : List ℕ) (front more : List TextLine) (last : Stage) (cause : Cause) → lines_of bytes ≡ front ++ more
+    → reached start front ≡ Ok last → IsRefusedThere last more cause
+    → parsed bytes ≡ Err (record { line = 1 + length front; cause = cause })
 unfolding parsed
-refused_by bytes front more last cause are found why = ap (lines_from start 1) are ∙ (lines_from-behind front more start last 1 found ∙ refused_there more last (1 + length front) cause why)
+refused_by bytes front more last cause are found why = ap (lines_from start 1) are
+    ∙ (lines_from-behind front more start last 1 found ∙ refused_there more last (1 + length front) cause why)
 
 -- Lines of an input that are read begin the text of a script.
-pub goes_on : (input : List ℕ) (count : ℕ) (last : Stage) → reached start (take count (lines_of input)) ≡ Ok last → CanGoOn (take count (lines_of input))
+pub goes_on : (input : List ℕ) (count : ℕ) (last : Stage) → reached start (take count (lines_of input)) ≡ Ok last
+    → CanGoOn (take count (lines_of input))
 goes_on input count last found =
     let front = take count (lines_of input) in
     let ordered : AreInOrder (lines_of input) = ((lines_are input (lines_of input)).1 refl).in_order in
@@ -233,16 +251,24 @@ goes_on input count last found =
     lines_of_ended_text texts (without-append fronts.texts (completion last) fronts.without (completion-without last))
     ∙ (ended_lines-append fronts.texts (completion last) ∙ ap (λ ls. ls ++ ended_lines (completion last)) (sym fronts.are)) in
     let read : parsed bytes ≡ Ok end.script = parsed_by bytes front (ended_lines (completion last)) last end.script lines found end.read in
-    record { script = end.script; input = bytes; more = ended_lines (completion last); is_text = (script_texts bytes end.script).0 read; lines_are = lines }
+    record {
+      script = end.script;
+      input = bytes;
+      more = ended_lines (completion last);
+      is_text = (script_texts bytes end.script).0 read;
+      lines_are = lines;
+    }
 
 -- The lines up to a refused one don't.
-take_next : (n : ℕ) (xs : List TextLine) (x : TextLine) (rest : List TextLine) → drop n xs ≡ x ∷ rest → take (suc n) xs ≡ take n xs ++ x ∷ []
+take_next : (n : ℕ) (xs : List TextLine) (x : TextLine) (rest : List TextLine) → drop n xs ≡ x ∷ rest
+    → take (suc n) xs ≡ take n xs ++ x ∷ []
 take_next zero [] x rest found = absurd (cc)
 take_next zero (y ∷ ys) x rest found = let same : y ≡ x = cc in ap (λ z. z ∷ []) same
 take_next (suc n) [] x rest found = absurd (cc)
 take_next (suc n) (y ∷ ys) x rest found = ap (λ zs. y ∷ zs) (take_next n ys x rest found)
 
-refused_front : (input : List ℕ) (refusal : Refusal) (is : IsRefused input refusal) (behind : List TextLine) → drop is.before (lines_of input) ≡ behind → refusal.line ≤ length (lines_of input) → CanGoOn (take refusal.line (lines_of input)) → ⊥
+refused_front : (input : List ℕ) (refusal : Refusal) (is : IsRefused input refusal) (behind : List TextLine)
+    → drop is.before (lines_of input) ≡ behind → refusal.line ≤ length (lines_of input) → CanGoOn (take refusal.line (lines_of input)) → ⊥
 refused_front input refusal is [] none within on =
     let size = length-drop is.before (lines_of input) in
     let empty = ap length none in
@@ -252,16 +278,19 @@ refused_front input refusal is (line ∷ behind) next within on =
     let front = take is.before lines in
     let count : refusal.line ≡ suc is.before = is.line_is ∙ add-one is.before in
     let up_to : take refusal.line lines ≡ front ++ line ∷ [] = ap (λ n. take n lines) count ∙ take_next is.before lines line behind next in
-    let there : lines_of on.input ≡ front ++ (line ∷ on.more) = on.lines_are ∙ (ap (λ ls. ls ++ on.more) up_to ∙ append_assoc front (line ∷ []) on.more) in
+    let there : lines_of on.input ≡ front ++ (line ∷ on.more) = on.lines_are
+    ∙ (ap (λ ls. ls ++ on.more) up_to ∙ append_assoc front (line ∷ []) on.more) in
     let why : IsLineFault is.stage line refusal.cause = subst (λ ls. IsRefusedThere is.stage ls refusal.cause) next is.why in
     let refused = refused_by on.input front (line ∷ on.more) is.stage refusal.cause there is.read_before why in
     let found = (script_texts on.input on.script).1 on.is_text in
     absurd (let e = sym found ∙ refused in cc)
 
-pub stops : (input : List ℕ) (refusal : Refusal) → IsRefused input refusal → refusal.line ≤ length (lines_of input) → CanGoOn (take refusal.line (lines_of input)) → ⊥
+pub stops : (input : List ℕ) (refusal : Refusal) → IsRefused input refusal → refusal.line ≤ length (lines_of input)
+    → CanGoOn (take refusal.line (lines_of input)) → ⊥
 stops input refusal is within on = refused_front input refusal is (drop is.before (lines_of input)) refl within on
 
-pub refused_first : (input : List ℕ) (refusal : Refusal) → IsRefused input refusal → CanGoOn (take (refusal.line - 1) (lines_of input)) × (refusal.line ≤ length (lines_of input) → CanGoOn (take refusal.line (lines_of input)) → ⊥)
+pub refused_first : (input : List ℕ) (refusal : Refusal) → IsRefused input refusal → CanGoOn (take (refusal.line - 1) (lines_of input))
+    × (refusal.line ≤ length (lines_of input) → CanGoOn (take refusal.line (lines_of input)) → ⊥)
 refused_first input refusal is =
     let before : is.before ≡ refusal.line - 1 = omega (arith, is.line_is) in
     (subst (λ n. CanGoOn (take n (lines_of input))) before (goes_on input is.before is.stage is.read_before), stops input refusal is)

@@ -25,18 +25,22 @@ use Rattle.faust_script.specs.Scripts.{AreEventLines}
 use Rattle.faust_script.proofs.EventLaws.{event_spells}
 
 -- One line of lines that make a script.
-pub after_line : (number : ℕ) (lines : List TextLine) (r : Result Stage Cause) (script : Script) → and_then_lines number (λ next. lines_from next (number + 1) lines) r ≡ Ok script → (next : Stage) × (r ≡ Ok next) × (lines_from next (number + 1) lines ≡ Ok script)
+pub after_line : (number : ℕ) (lines : List TextLine) (r : Result Stage Cause) (script : Script)
+    → and_then_lines number (λ next. lines_from next (number + 1) lines) r ≡ Ok script
+    → (next : Stage) × (r ≡ Ok next) × (lines_from next (number + 1) lines ≡ Ok script)
 after_line number lines (Ok next) script found = (next, refl, found)
 after_line number lines (Err cause) script found = absurd (cc)
 
-pub step_found : (stage next : Stage) (number : ℕ) (text : List ℕ) (lines : List TextLine) → length text ≤ 40000 → text_at stage text ≡ Ok next → lines_from stage number (ended_line text ∷ lines) ≡ lines_from next (number + 1) lines
+pub step_found : (stage next : Stage) (number : ℕ) (text : List ℕ) (lines : List TextLine) → length text ≤ 40000
+    → text_at stage text ≡ Ok next → lines_from stage number (ended_line text ∷ lines) ≡ lines_from next (number + 1) lines
 unfolding lines_from stage_at
 step_found stage next number text lines few read =
     ap (λ r. and_then_lines number (λ s. lines_from s (number + 1) lines) (r >>= text_at stage)) (whole_line-again text few)
     ∙ ap (and_then_lines number (λ s. lines_from s (number + 1) lines)) read
 
 -- Behind the end.
-ended_only : (s : Script) (number : ℕ) (lines : List TextLine) (script : Script) → lines_from (stages.Ended s) number lines ≡ Ok script → (lines ≡ []) × (s ≡ script)
+ended_only : (s : Script) (number : ℕ) (lines : List TextLine) (script : Script) → lines_from (stages.Ended s) number lines ≡ Ok script
+    → (lines ≡ []) × (s ≡ script)
 unfolding lines_from stage_at text_at
 ended_only s number [] script found = (refl, cc)
 ended_only s number (line ∷ lines) script found =
@@ -74,20 +78,32 @@ pub record Item (s : Script) (text : List ℕ) (next : Stage) : Type 0 where
   pub spelled : event_at s.config.clients (tokens_of text) ≡ Ok event
   pub next_is : stages.Events (with_event s event) ≡ next
 
-item_only : (s : Script) (text : List ℕ) (next : Stage) → text_at (stages.Events s) text ≡ Ok next → ((text ≡ end_text) × (stages.Ended s ≡ next)) ⊎ Item s text next
+item_only : (s : Script) (text : List ℕ) (next : Stage) → text_at (stages.Events s) text ≡ Ok next
+    → ((text ≡ end_text) × (stages.Ended s ≡ next)) ⊎ Item s text next
 unfolding text_at
 item_only s text next read =
-    elim (chosen (bytes_eq text end_text) (Ok (stages.Ended s)) (cond (leb 20000 (length s.events)) (Err causes.Events) (event_at s.config.clients (tokens_of text) >>= (λ event. Ok (stages.Events (with_event s event))))) (Ok next) read) [
+    elim (chosen (bytes_eq text end_text) (Ok (stages.Ended s))
+    (cond (leb 20000 (length s.events)) (Err causes.Events) (event_at s.config.clients (tokens_of text)
+    >>= (λ event. Ok (stages.Events (with_event s event))))) (Ok next) read) [
       | inl end ↦ inl ((bytes_eq-Decides text end_text).0 end.0, ok_same (stages.Ended s) next end.1)
-      | inr other ↦ elim (chosen (leb 20000 (length s.events)) (Err causes.Events) (event_at s.config.clients (tokens_of text) >>= (λ event. Ok (stages.Events (with_event s event)))) (Ok next) other.1) [
-        | inl full ↦ absurd (let e = full.1 in cc)
-        | inr room ↦
-            let event = bind_ok (event_at s.config.clients (tokens_of text)) (λ event. Ok (stages.Events (with_event s event))) next room.1 in
-            inr (record { event = event.0; room = leb-false _ _ room.0; spelled = event.1; next_is = ok_same (stages.Events (with_event s event.0)) next event.2 })
-      ]
+      | inr other ↦
+          elim (chosen (leb 20000 (length s.events)) (Err causes.Events) (event_at s.config.clients (tokens_of text)
+          >>= (λ event. Ok (stages.Events (with_event s event)))) (Ok next) other.1) [
+            | inl full ↦ absurd (let e = full.1 in cc)
+            | inr room ↦
+                let event = bind_ok (event_at s.config.clients (tokens_of text))
+                (λ event. Ok (stages.Events (with_event s event))) next room.1 in
+                inr (record {
+                  event = event.0;
+                  room = leb-false _ _ room.0;
+                  spelled = event.1;
+                  next_is = ok_same (stages.Events (with_event s event.0)) next event.2;
+                })
+          ]
     ]
 
-pub events_only : (s : Script) (number : ℕ) (lines : List TextLine) (script : Script) → length s.events ≤ 20000 → lines_from (stages.Events s) number lines ≡ Ok script → Rest s lines script
+pub events_only : (s : Script) (number : ℕ) (lines : List TextLine) (script : Script) → length s.events ≤ 20000
+    → lines_from (stages.Events s) number lines ≡ Ok script → Rest s lines script
 unfolding lines_from stage_at
 events_only s number [] script few found = absurd (events_unfinished s script number found)
 events_only s number (line ∷ lines) script few found =
@@ -109,8 +125,10 @@ events_only s number (line ∷ lines) script few found =
       | inr item ↦
           let grown = with_event s item.event in
           let count : length grown.events ≤ 20000 = omega (arith, item.room, length-append s.events (item.event ∷ [])) in
-          let more = events_only grown (number + 1) lines script count (ap (λ st. lines_from st (number + 1) lines) item.next_is ∙ next.2) in
-          let joined : (s.events ++ item.event ∷ []) ++ more.events ≡ s.events ++ (item.event ∷ more.events) = append_assoc s.events (item.event ∷ []) more.events in
+          let more = events_only grown (number + 1) lines script count (ap (λ st. lines_from st (number + 1) lines) item.next_is
+          ∙ next.2) in
+          let joined : (s.events ++ item.event ∷ []) ++ more.events ≡ s.events ++ (item.event ∷ more.events) =
+          append_assoc s.events (item.event ∷ []) more.events in
           record {
             texts = text.0 ∷ more.texts;
             events = item.event ∷ more.events;
@@ -123,11 +141,15 @@ events_only s number (line ∷ lines) script few found =
     ]
 
 -- The text of an event isn't `end`, and there is room for it.
-event_read : (s : Script) (event : Event) (text : List ℕ) → length s.events < 20000 → event_at s.config.clients (tokens_of text) ≡ Ok event → (text ≡ end_text → ⊥) → text_at (stages.Events s) text ≡ Ok (stages.Events (with_event s event))
+event_read : (s : Script) (event : Event) (text : List ℕ) → length s.events < 20000
+    → event_at s.config.clients (tokens_of text) ≡ Ok event → (text ≡ end_text → ⊥)
+    → text_at (stages.Events s) text ≡ Ok (stages.Events (with_event s event))
 unfolding text_at
 event_read s event text room spelled not_end =
-    cond-false (bytes_eq text end_text) (Ok (stages.Ended s)) _ (false_from_ne_true (bytes_eq text end_text) (λ same. not_end ((bytes_eq-Decides text end_text).0 same)))
-    ∙ (cond-false (leb 20000 (length s.events)) (Err causes.Events) (event_at s.config.clients (tokens_of text) >>= (λ e. Ok (stages.Events (with_event s e)))) (lt-leb _ _ room)
+    cond-false (bytes_eq text end_text) (Ok (stages.Ended s)) _
+    (false_from_ne_true (bytes_eq text end_text) (λ same. not_end ((bytes_eq-Decides text end_text).0 same)))
+    ∙ (cond-false (leb 20000 (length s.events)) (Err causes.Events) (event_at s.config.clients (tokens_of text)
+    >>= (λ e. Ok (stages.Events (with_event s e)))) (lt-leb _ _ room)
     ∙ ap (λ r. r >>= (λ e. Ok (stages.Events (with_event s e)))) spelled)
 
 pub end_read : (s : Script) → text_at (stages.Events s) end_text ≡ Ok (stages.Ended s)
@@ -142,7 +164,9 @@ end_is_no_event n = refl
 not_the_end : (n : ℕ) (event : Event) (text : List ℕ) → event_at n (tokens_of text) ≡ Ok event → text ≡ end_text → ⊥
 not_the_end n event text spelled same = absurd (let e = sym (ap (λ t. event_at n (tokens_of t)) same ∙ end_is_no_event n) ∙ spelled in cc)
 
-pub events_found : (s : Script) (number : ℕ) (events : List Event) (texts : List (List ℕ)) → AreEventLines s.config.clients events texts → AllByRecursion FitsLine (texts ++ end_text ∷ []) → length (s.events ++ events) ≤ 20000 → lines_from (stages.Events s) number (ended_lines (texts ++ end_text ∷ [])) ≡ Ok (record s { events = s.events ++ events })
+pub events_found : (s : Script) (number : ℕ) (events : List Event) (texts : List (List ℕ)) → AreEventLines s.config.clients events texts
+    → AllByRecursion FitsLine (texts ++ end_text ∷ []) → length (s.events ++ events) ≤ 20000
+    → lines_from (stages.Events s) number (ended_lines (texts ++ end_text ∷ [])) ≡ Ok (record s { events = s.events ++ events })
 events_found s number [] [] spelled fit few =
     step_found (stages.Events s) (stages.Ended s) number end_text [] fit.0 (end_read s)
     ∙ (ended_found s (number + 1) ∙ ap (λ es. Ok (record s { events = es })) (sym (append-nil s.events)))
@@ -155,5 +179,6 @@ events_found s number (event ∷ events) (text ∷ texts) spelled fit few =
     let room : length s.events < 20000 = omega arith in
     let read = (event_spells s.config.clients event (tokens_of text)).1 spelled.0 in
     let few_grown : length ((s.events ++ event ∷ []) ++ events) ≤ 20000 = subst (λ (es : List Event). length es ≤ 20000) (sym joined) few in
-    step_found (stages.Events s) (stages.Events grown) number text (ended_lines (texts ++ end_text ∷ [])) fit.0 (event_read s event text room read (not_the_end s.config.clients event text read))
+    step_found (stages.Events s) (stages.Events grown) number text (ended_lines (texts ++ end_text ∷ [])) fit.0
+    (event_read s event text room read (not_the_end s.config.clients event text read))
     ∙ (events_found grown (number + 1) events texts spelled.1 fit.1 few_grown ∙ ap (λ es. Ok (record s { events = es })) joined)

@@ -67,12 +67,17 @@ all_but_one i (suc m) test made one own others =
     elim (cases_eq (suc m) i) [
       | inl same ↦
           let none : last ≡ [] = cond-true (test (suc m)) [] (made (suc m) ∷ []) (ap test same ∙ own) in
-          let whole : length (front ++ last) ≡ length front + 0 = length-append front last ∙ ap (λ (l : List Event). length front + length l) none in
+          let whole : length (front ++ last) ≡ length front + 0 = length-append front last
+          ∙ ap (λ (l : List Event). length front + length l) none in
           record { behind = λ h. omega (arith, whole, is.before (omega arith)); before = λ h. absurd (omega arith) }
       | inr other ↦
           let some : last ≡ made (suc m) ∷ [] = cond-false (test (suc m)) [] (made (suc m) ∷ []) (others (suc m) other) in
-          let whole : length (front ++ last) ≡ length front + 1 = length-append front last ∙ ap (λ (l : List Event). length front + length l) some in
-          record { behind = λ h. omega (arith, whole, is.behind (omega (arith, other))); before = λ h. omega (arith, whole, is.before (omega arith)) }
+          let whole : length (front ++ last) ≡ length front + 1 = length-append front last
+          ∙ ap (λ (l : List Event). length front + length l) some in
+          record {
+            behind = λ h. omega (arith, whole, is.behind (omega (arith, other)));
+            before = λ h. omega (arith, whole, is.before (omega arith));
+          }
     ]
 
 -- The events of a round.
@@ -83,14 +88,16 @@ from_each_in_range : (n k : ℕ) → IsPlace k → AllByRecursion (IsEventFor n)
 from_each_in_range n k place =
     each_in_range n n (λ i. each_up_to n (λ j. to_another k i j))
     (λ i sender. each_in_range n n (λ j. to_another k i j)
-    (λ j receiver. cond_both (nat_eq i j) [] (event.Peer i j k ∷ []) (AllByRecursion (IsEventFor n)) (λ same. tt) (λ other. ((sender, receiver, place), tt))) (omega arith))
+    (λ j receiver. cond_both (nat_eq i j) [] (event.Peer i j k ∷ []) (AllByRecursion (IsEventFor n)) (λ same. tt)
+    (λ other. ((sender, receiver, place), tt))) (omega arith))
     (omega arith)
 
 to_each_in_range : (n k : ℕ) → IsPlace k → AllByRecursion (IsEventFor n) (to_each n k)
 to_each_in_range n k place =
     each_in_range n n (λ i. each_up_to n (λ j. to_another k j i))
     (λ i receiver. each_in_range n n (λ j. to_another k j i)
-    (λ j sender. cond_both (nat_eq j i) [] (event.Peer j i k ∷ []) (AllByRecursion (IsEventFor n)) (λ same. tt) (λ other. ((sender, receiver, place), tt))) (omega arith))
+    (λ j sender. cond_both (nat_eq j i) [] (event.Peer j i k ∷ []) (AllByRecursion (IsEventFor n)) (λ same. tt)
+    (λ other. ((sender, receiver, place), tt))) (omega arith))
     (omega arith)
 
 round_in_range : (n r : ℕ) → 1 ≤ r → r ≤ 2 → AllByRecursion (IsEventFor n) (round_of n r)
@@ -98,7 +105,8 @@ round_in_range n r from_one to_two =
     let back = all_append (IsEventFor n) (from_each n (2 * r - 1)) (to_each n (2 * r))
     (from_each_in_range n (2 * r - 1) (record { from_one = omega arith; to_20000 = omega arith }))
     (to_each_in_range n (2 * r) (record { from_one = omega arith; to_20000 = omega arith })) in
-    all_append (IsEventFor n) (ticks n (1000 * r)) (from_each n (2 * r - 1) ++ to_each n (2 * r)) (ticks_in_range n (1000 * r) (omega arith)) back
+    all_append (IsEventFor n) (ticks n (1000 * r)) (from_each n (2 * r - 1) ++ to_each n (2 * r))
+    (ticks_in_range n (1000 * r) (omega arith)) back
 
 ticks_counted : (n moment : ℕ) → length (ticks n moment) ≡ n * 1
 ticks_counted n moment = each_counted n n 1 (λ i. event.Tick i moment ∷ []) (λ k is. refl) (omega arith)
@@ -106,12 +114,14 @@ ticks_counted n moment = each_counted n n 1 (λ i. event.Tick i moment ∷ []) (
 from_each_counted : (n k : ℕ) → length (from_each n k) ≡ n * (n - 1)
 from_each_counted n k =
     each_counted n n (n - 1) (λ i. each_up_to n (λ j. to_another k i j))
-    (λ i is. let one = all_but_one i n (λ j. nat_eq i j) (λ j. event.Peer i j k) is.from_one (eq-eqb i i refl) (λ j other. ne_eqb i j (λ e. other (sym e))) in omega (arith, one.behind is.to_n)) (omega arith)
+    (λ i is. let one = all_but_one i n (λ j. nat_eq i j) (λ j. event.Peer i j k) is.from_one (eq-eqb i i refl)
+    (λ j other. ne_eqb i j (λ e. other (sym e))) in omega (arith, one.behind is.to_n)) (omega arith)
 
 to_each_counted : (n k : ℕ) → length (to_each n k) ≡ n * (n - 1)
 to_each_counted n k =
     each_counted n n (n - 1) (λ i. each_up_to n (λ j. to_another k j i))
-    (λ i is. let one = all_but_one i n (λ j. nat_eq j i) (λ j. event.Peer j i k) is.from_one (eq-eqb i i refl) (λ j other. ne_eqb j i other) in omega (arith, one.behind is.to_n)) (omega arith)
+    (λ i is. let one = all_but_one i n (λ j. nat_eq j i) (λ j. event.Peer j i k) is.from_one (eq-eqb i i refl)
+    (λ j other. ne_eqb j i other) in omega (arith, one.behind is.to_n)) (omega arith)
 
 round_counted : (n r : ℕ) → length (round_of n r) ≡ n + 2 * (n * (n - 1))
 round_counted n r =
@@ -130,7 +140,8 @@ pub generated_counted : (seed n ops : ℕ) → IsSampleSize n ops → length (ge
 unfolding generated drawn_events
 generated_counted seed n ops size =
     let drawn : List Event = (after_steps n ops (beginning seed n) (step_count ops)).events in
-    let is : IsUnderway n ops (step_count ops) (after_steps n ops (beginning seed n) (step_count ops)) = underway seed n ops (step_count ops) size (omega arith) in
+    let is : IsUnderway n ops (step_count ops) (after_steps n ops (beginning seed n) (step_count ops)) =
+    underway seed n ops (step_count ops) size (omega arith) in
     let whole = length-append drawn (last_operation n ++ (round_of n 1 ++ round_of n 2)) in
     let back = length-append (last_operation n) (round_of n 1 ++ round_of n 2) in
     let rounds = length-append (round_of n 1) (round_of n 2) in
@@ -143,8 +154,10 @@ pub generated_in_range : (seed n ops : ℕ) → IsSampleSize n ops → IsScript 
 unfolding generated drawn_events
 generated_in_range seed n ops size =
     let drawn : List Event = (after_steps n ops (beginning seed n) (step_count ops)).events in
-    let is : IsUnderway n ops (step_count ops) (after_steps n ops (beginning seed n) (step_count ops)) = underway seed n ops (step_count ops) size (omega arith) in
-    let few : n * (n - 1) ≤ 32 * 31 = mul-le-mul {n₁ = n} {m₁ = n - 1} {n₂ = 32} {m₂ = 31} (omega (arith, size.clients_count.at_most_32)) (omega (arith, size.clients_count.at_most_32)) in
+    let is : IsUnderway n ops (step_count ops) (after_steps n ops (beginning seed n) (step_count ops)) =
+    underway seed n ops (step_count ops) size (omega arith) in
+    let few : n * (n - 1) ≤ 32 * 31 = mul-le-mul {n₁ = n} {m₁ = n - 1} {n₂ = 32} {m₂ = 31} (omega (arith, size.clients_count.at_most_32))
+    (omega (arith, size.clients_count.at_most_32)) in
     record {
       format_known = inl (refl, refl);
       config_in_range = record {
@@ -156,7 +169,8 @@ generated_in_range seed n ops size =
       };
       events_in_range = all_append (IsEventFor n) drawn (last_operation n ++ (round_of n 1 ++ round_of n 2)) is.events_in_range
           (all_append (IsEventFor n) (last_operation n) (round_of n 1 ++ round_of n 2) (last_in_range n size.clients_count)
-          (all_append (IsEventFor n) (round_of n 1) (round_of n 2) (round_in_range n 1 (lit≤ tt) (lit≤ tt)) (round_in_range n 2 (lit≤ tt) (lit≤ tt))));
+          (all_append (IsEventFor n) (round_of n 1) (round_of n 2) (round_in_range n 1 (lit≤ tt) (lit≤ tt))
+          (round_in_range n 2 (lit≤ tt) (lit≤ tt))));
       few_events = omega (arith, generated_counted seed n ops size, few, size.to_3000, size.clients_count.at_most_32);
     }
 
@@ -172,7 +186,9 @@ generated_is seed n ops config drawn ended one two first second third fourth sha
     let front : List Event = drawn_events seed n ops in
     let ended_is : ended ≡ front ++ last_operation n = second ∙ ap (λ (l : List Event). l ++ last_operation n) first in
     let one_is : one ≡ (front ++ last_operation n) ++ round_of n 1 = third ∙ ap (λ (l : List Event). l ++ round_of n 1) ended_is in
-    let two_is : two ≡ ((front ++ last_operation n) ++ round_of n 1) ++ round_of n 2 = fourth ∙ ap (λ (l : List Event). l ++ round_of n 2) one_is in
+    let two_is : two ≡ ((front ++ last_operation n) ++ round_of n 1) ++ round_of n 2 = fourth
+    ∙ ap (λ (l : List Event). l ++ round_of n 2) one_is in
     let whole : two ≡ front ++ (last_operation n ++ (round_of n 1 ++ round_of n 2)) =
-    two_is ∙ (append_assoc (front ++ last_operation n) (round_of n 1) (round_of n 2) ∙ append_assoc front (last_operation n) (round_of n 1 ++ round_of n 2)) in
+    two_is ∙ (append_assoc (front ++ last_operation n) (round_of n 1) (round_of n 2)
+    ∙ append_assoc front (last_operation n) (round_of n 1 ++ round_of n 2)) in
     ap (λ (c : Config). script_of c two) shared ∙ ap (λ (l : List Event). script_of (sample_config n) l) whole

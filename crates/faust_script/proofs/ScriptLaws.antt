@@ -62,7 +62,8 @@ head_only (line ∷ lines) head number script found =
             number_behind = more.number_behind;
             lines_are = ap (λ l. l ∷ lines) whole.0 ∙ ap (λ ls. ended_line text.0 ∷ ls) more.lines_are;
             fit = (whole.1, more.fit);
-            read = ap (λ r. r >>= (λ s. head_read script_form s more.texts)) step.1 ∙ (ap (λ s. head_read script_form s more.texts) more_head.1 ∙ more.read);
+            read = ap (λ r. r >>= (λ s. head_read script_form s more.texts)) step.1
+                ∙ (ap (λ s. head_read script_form s more.texts) more_head.1 ∙ more.read);
             rest = more.rest;
           }
       | inr made ↦
@@ -81,7 +82,8 @@ head_only (line ∷ lines) head number script found =
     ]
 
 -- A line of a head is read as its tokens are.
-pub head_line_read : (head : Head) (step : HeadStep) (text : List ℕ) → head_at script_form head (tokens_of text) ≡ Ok step → text_at (stages.Head head) text ≡ Ok (after_head step)
+pub head_line_read : (head : Head) (step : HeadStep) (text : List ℕ) → head_at script_form head (tokens_of text) ≡ Ok step
+    → text_at (stages.Head head) text ≡ Ok (after_head step)
 unfolding text_at
 head_line_read head step text read = ap (λ r. r >>= (λ s. Ok (after_head s))) read
 
@@ -96,18 +98,22 @@ config_in default (Whole format config) = config
 head_found : (texts : List (List ℕ)) (head : Head) (number format : ℕ) (config : Config) (behind : List TextLine)
     → AllByRecursion FitsLine texts
     → head_read script_form (Next head) texts ≡ Ok (Whole format config)
-    → lines_from (stages.Head head) number (ended_lines texts ++ behind) ≡ lines_from (stages.Events (empty_script format config)) (number + length texts) behind
+    → lines_from (stages.Head head) number (ended_lines texts ++ behind) ≡ lines_from (stages.Events (empty_script format config))
+    (number + length texts) behind
 head_found [] head number format config behind fit read = absurd (let e = ok_same (Next head) (Whole format config) read in cc)
 head_found (text ∷ texts) head number format config behind fit read =
     let step = bind_ok (head_at script_form head (tokens_of text)) (λ s. head_read script_form s texts) (Whole format config) read in
-    let first = step_found (stages.Head head) (after_head step.0) number text (ended_lines texts ++ behind) fit.0 (head_line_read head step.0 text step.1) in
+    let first = step_found (stages.Head head) (after_head step.0) number text (ended_lines texts ++ behind) fit.0
+    (head_line_read head step.0 text step.1) in
     elim (step_cases step.0) [
       | inl more ↦
-          let rest = head_found texts more.0 (number + 1) format config behind fit.1 (ap (λ s. head_read script_form s texts) (sym more.1) ∙ step.2) in
+          let rest = head_found texts more.0 (number + 1) format config behind fit.1 (ap (λ s. head_read script_form s texts) (sym more.1)
+          ∙ step.2) in
           first ∙ (ap (λ s. lines_from (after_head s) (number + 1) (ended_lines texts ++ behind)) more.1
           ∙ (rest ∙ ap (λ q. lines_from (stages.Events (empty_script format config)) q behind) (omega arith)))
       | inr made ↦
-          let last = nothing_behind script_form made.0 made.1 texts format config (ap (λ s. head_read script_form s texts) (sym made.2) ∙ step.2) in
+          let last = nothing_behind script_form made.0 made.1 texts format config (ap (λ s. head_read script_form s texts) (sym made.2)
+          ∙ step.2) in
           let same_format : made.0 ≡ format = ap (format_in made.0) last.1 in
           let same : made.1 ≡ config = ap (config_in made.1) last.1 in
           let none = ap length last.0 in

@@ -48,7 +48,8 @@ value_in_range client number small few =
     let back : length (decimal number) ≤ 20 = length-decimal-le 20 number (lit< tt) (omega arith) few in
     record {
       sized = omega (arith, front, back, length-append (decimal client) (45 ∷ decimal number));
-      bytes_each = bytes_append (decimal client) (45 ∷ decimal number) (decimal_bytes client small) (bytes_append (45 ∷ []) (decimal number) dash_bytes (decimal_bytes number few));
+      bytes_each = bytes_append (decimal client) (45 ∷ decimal number) (decimal_bytes client small)
+          (bytes_append (45 ∷ []) (decimal number) dash_bytes (decimal_bytes number few));
     }
 
 client_small : (n client : ℕ) → IsClientCount n → IsClient n client → client < 2 ^ 64
@@ -83,7 +84,8 @@ pub record IsAble (may : Bool) (first : ℕ) (actors : List Actor) (client : ℕ
   pub before_end : client < first + length actors
   pub can : can_act may (get_or actors (client - first) idle).phase ≡ true
 
-later : (may : Bool) (first client : ℕ) (actor : Actor) (actors : List Actor) → IsAble may (first + 1) actors client → IsAble may first (actor ∷ actors) client
+later : (may : Bool) (first client : ℕ) (actor : Actor) (actors : List Actor) → IsAble may (first + 1) actors client
+    → IsAble may first (actor ∷ actors) client
 later may first client actor actors is =
     let place : client - first ≡ suc (client - (first + 1)) = omega (arith, is.not_before) in
     record {
@@ -92,7 +94,8 @@ later may first client actor actors is =
       can = ap (λ (k : ℕ). can_act may (get_or (actor ∷ actors) k idle).phase) place ∙ is.can;
     }
 
-first_able : (may : Bool) (first : ℕ) (actor : Actor) (actors : List Actor) → can_act may actor.phase ≡ true → IsAble may first (actor ∷ actors) first
+first_able : (may : Bool) (first : ℕ) (actor : Actor) (actors : List Actor) → can_act may actor.phase ≡ true
+    → IsAble may first (actor ∷ actors) first
 first_able may first actor actors can =
     let place : first - first ≡ 0 = omega arith in
     record {
@@ -133,16 +136,19 @@ pub able_taken : (may : Bool) (actors : List Actor) (i : ℕ) (d : Actor) → i 
     → able_from may (i + 1) (drop i actors) ≡ (i + 1) ∷ able_from may (i + 1 + 1) (drop (i + 1) actors)
 able_taken may actors i d within can =
     able_next may actors i d within
-    ∙ cond-true (can_act may (get_or actors i d).phase) ((i + 1) ∷ able_from may (i + 1 + 1) (drop (i + 1) actors)) (able_from may (i + 1 + 1) (drop (i + 1) actors)) can
+    ∙ cond-true (can_act may (get_or actors i d).phase) ((i + 1) ∷ able_from may (i + 1 + 1) (drop (i + 1) actors))
+    (able_from may (i + 1 + 1) (drop (i + 1) actors)) can
 
 pub able_passed : (may : Bool) (actors : List Actor) (i : ℕ) (d : Actor) → i < length actors → can_act may (get_or actors i d).phase ≡ false
     → able_from may (i + 1) (drop i actors) ≡ able_from may (i + 1 + 1) (drop (i + 1) actors)
 able_passed may actors i d within cannot =
     able_next may actors i d within
-    ∙ cond-false (can_act may (get_or actors i d).phase) ((i + 1) ∷ able_from may (i + 1 + 1) (drop (i + 1) actors)) (able_from may (i + 1 + 1) (drop (i + 1) actors)) cannot
+    ∙ cond-false (can_act may (get_or actors i d).phase) ((i + 1) ∷ able_from may (i + 1 + 1) (drop (i + 1) actors))
+    (able_from may (i + 1 + 1) (drop (i + 1) actors)) cannot
 
 -- A step more.
-pub one_more_step : (n ops : ℕ) (progress : Progress) (steps : ℕ) → acted n ops (after_steps n ops progress steps) ≡ after_steps n ops progress (steps + 1)
+pub one_more_step : (n ops : ℕ) (progress : Progress) (steps : ℕ)
+    → acted n ops (after_steps n ops progress steps) ≡ after_steps n ops progress (steps + 1)
 unfolding after_steps
 one_more_step n ops progress steps = let step : suc steps ≡ steps + 1 = omega arith in ap (λ (k : ℕ). after_steps n ops progress k) step
 
@@ -164,7 +170,8 @@ owed_more : (actor : Actor) (actors : List Actor) → owed (actor ∷ actors) �
 owed_more actor actors = refl
 
 some_behind : (actor : Actor) (actors : List Actor) → owed_in actor.phase ≡ 0 → 0 < owed (actor ∷ actors) → 0 < owed actors
-some_behind actor actors nothing some = let more : 0 < owed_in actor.phase + owed actors = subst (λ (k : ℕ). 0 < k) (owed_more actor actors) some in omega arith
+some_behind actor actors nothing some = let more : 0 < owed_in actor.phase + owed actors =
+    subst (λ (k : ℕ). 0 < k) (owed_more actor actors) some in omega arith
 
 none_here : (actor : Actor) (actors : List Actor) → owed (actor ∷ actors) ≡ 0 → owed_in actor.phase ≡ 0
 none_here actor actors none = let both : owed_in actor.phase + owed actors ≡ 0 = sym (owed_more actor actors) ∙ none in omega arith
@@ -190,7 +197,8 @@ some_where_open : (first : ℕ) (actors : List Actor) → 0 < length actors → 
 some_where_open first [] some = absurd (omega arith)
 some_where_open first (actor ∷ actors) some =
     subst (λ (clients : List ℕ). 0 < length clients)
-    (sym (cond-true (can_act true actor.phase) (first ∷ able_from true (first + 1) actors) (able_from true (first + 1) actors) (can_begin actor.phase)))
+    (sym (cond-true (can_act true actor.phase) (first ∷ able_from true (first + 1) actors) (able_from true (first + 1) actors)
+    (can_begin actor.phase)))
     (omega arith)
 
 owed_nothing : (phase : Phase) → owed_in phase ≡ 0 → can_act false phase ≡ false
@@ -236,7 +244,8 @@ stepped : (n ops steps state begun client number : ℕ) (phase : Phase) (made : 
     })
 stepped n ops steps state begun client number phase made progress underway is in_range above few small less =
     let place : client - 1 < length progress.actors = omega (arith, underway.each_counted, is.from_one, is.to_n) in
-    let same : owed (set progress.actors (client - 1) (record { phase = phase; number = number })) + owed_by (get_or progress.actors (client - 1) idle)
+    let same : owed (set progress.actors (client - 1) (record { phase = phase; number = number })) + owed_by
+    (get_or progress.actors (client - 1) idle)
     ≡ owed progress.actors + owed_in phase = owed_after progress.actors (client - 1) (record { phase = phase; number = number }) place in
     record {
       each_counted = length-set progress.actors (client - 1) (record { phase = phase; number = number }) ∙ underway.each_counted;
@@ -259,31 +268,43 @@ underway_drawn n ops steps progress underway = record {
 }
 
 -- The next event of a client in a phase.
-goes_on_underway : (n ops steps client number : ℕ) (phase : Phase) (progress : Progress) → IsSampleSize n ops → IsUnderway n ops steps progress
+goes_on_underway : (n ops steps client number : ℕ) (phase : Phase) (progress : Progress) → IsSampleSize n ops
+    → IsUnderway n ops steps progress
     → IsClient n client → number ≤ progress.begun → owed_by (get_or progress.actors (client - 1) idle) ≡ owed_in phase
     → can_act (may_begin_one ops progress) phase ≡ true → IsUnderway n ops (suc steps) (goes_on n client number phase progress)
 goes_on_underway n ops steps client number phases.Idle progress size underway is low owes can =
     let more : progress.begun < ops - 1 = ltb-true progress.begun (ops - 1) can in
     let few : number + 1 < 2 ^ 64 = omega (arith, size.to_3000) in
-    let register : IsClient n (answer (drawn (drawn progress.state)) % n + 1) = drawn_register n (answer (drawn (drawn progress.state))) size.clients_count in
-    let less : owed_in phases.Begun + 4 * ((ops - 1) - (progress.begun + 1)) + 1 ≡ owed_by (get_or progress.actors (client - 1) idle) + 4 * ((ops - 1) - progress.begun) = omega (arith, owes) in
+    let register : IsClient n (answer (drawn (drawn progress.state)) % n + 1) =
+    drawn_register n (answer (drawn (drawn progress.state))) size.clients_count in
+    let less : owed_in phases.Begun + 4 * ((ops - 1) - (progress.begun + 1)) + 1
+    ≡ owed_by (get_or progress.actors (client - 1) idle) + 4 * ((ops - 1) - progress.begun) = omega (arith, owes) in
     cond_both (nat_eq (answer (drawn progress.state) % 2) 0)
     (begins_with client (number + 1) (event.Write client (value_of client (number + 1))) (after_draw progress))
     (begins_read n client (number + 1) (after_draw (after_draw progress)))
     (IsUnderway n ops (suc steps))
-    (λ even. stepped n ops steps (drawn progress.state) (progress.begun + 1) client (number + 1) phases.Begun (event.Write client (value_of client (number + 1))) progress
-    underway is (is, value_in_range client (number + 1) (client_small n client size.clients_count is) few) (omega arith) (omega arith) (omega arith) less)
+    (λ even. stepped n ops steps (drawn progress.state) (progress.begun + 1) client (number + 1) phases.Begun
+    (event.Write client (value_of client (number + 1))) progress
+    underway is (is, value_in_range client (number + 1) (client_small n client size.clients_count is) few) (omega arith) (omega arith)
+    (omega arith) less)
     (λ odd. stepped n ops steps (drawn (drawn progress.state)) (progress.begun + 1) client (number + 1) phases.Begun
-    (event.Read client (answer (drawn (drawn progress.state)) % n + 1)) progress underway is (is, register) (omega arith) (omega arith) (omega arith) less)
+    (event.Read client (answer (drawn (drawn progress.state)) % n + 1)) progress underway is (
+      is,
+      register,
+    ) (omega arith) (omega arith) (omega arith) less)
 goes_on_underway n ops steps client number phases.Begun progress size underway is low owes can =
-    stepped n ops steps progress.state progress.begun client number phases.Arrived (event.Arrive client) progress underway is is (omega arith) underway.few_begun low (omega (arith, owes))
+    stepped n ops steps progress.state progress.begun client number phases.Arrived (event.Arrive client) progress underway is is
+    (omega arith) underway.few_begun low (omega (arith, owes))
 goes_on_underway n ops steps client number phases.Arrived progress size underway is low owes can =
-    stepped n ops steps progress.state progress.begun client number phases.Replied (event.Reply client) progress underway is is (omega arith) underway.few_begun low (omega (arith, owes))
+    stepped n ops steps progress.state progress.begun client number phases.Replied (event.Reply client) progress underway is is
+    (omega arith) underway.few_begun low (omega (arith, owes))
 goes_on_underway n ops steps client number phases.Replied progress size underway is low owes can =
-    stepped n ops steps progress.state progress.begun client number phases.Idle (event.Arrive client) progress underway is is (omega arith) underway.few_begun low (omega (arith, owes))
+    stepped n ops steps progress.state progress.begun client number phases.Idle (event.Arrive client) progress underway is is
+    (omega arith) underway.few_begun low (omega (arith, owes))
 
 -- As long as steps are left some client can act.
-pub some_able : (n ops steps : ℕ) (progress : Progress) → IsSampleSize n ops → IsUnderway n ops steps progress → steps < step_count ops → 0 < length (able ops progress)
+pub some_able : (n ops steps : ℕ) (progress : Progress) → IsSampleSize n ops → IsUnderway n ops steps progress → steps < step_count ops
+    → 0 < length (able ops progress)
 some_able n ops steps progress size underway more =
     elim (cases_Bool (may_begin_one ops progress)) [
       | inl may ↦ subst (λ (b : Bool). 0 < length (able_from b 1 progress.actors)) (sym may)
@@ -307,8 +328,10 @@ underway_acted n ops steps progress size underway more =
     let within : place < length (able ops progress) = omega (arith, some) in
     let client : ℕ = get_or (able ops progress) place 0 in
     let is = able_is (may_begin_one ops progress) 1 progress.actors place within in
-    goes_on_underway n ops steps client (get_or progress.actors (client - 1) idle).number (get_or progress.actors (client - 1) idle).phase (after_draw progress) size
-    (underway_drawn n ops steps progress underway) (able_client n ops steps place progress underway within) (underway.numbers_low (client - 1)) refl is.can
+    goes_on_underway n ops steps client (get_or progress.actors (client - 1) idle).number (get_or progress.actors (client - 1) idle).phase
+    (after_draw progress) size
+    (underway_drawn n ops steps progress underway) (able_client n ops steps place progress underway within)
+    (underway.numbers_low (client - 1)) refl is.can
 
 idle_owes : (n : ℕ) → owed (replicate n idle) ≡ 0
 idle_owes zero = refl
@@ -329,11 +352,13 @@ underway_first seed n ops = record {
   events_in_range = tt;
 }
 
-pub underway : (seed n ops steps : ℕ) → IsSampleSize n ops → steps ≤ step_count ops → IsUnderway n ops steps (after_steps n ops (beginning seed n) steps)
+pub underway : (seed n ops steps : ℕ) → IsSampleSize n ops → steps ≤ step_count ops
+    → IsUnderway n ops steps (after_steps n ops (beginning seed n) steps)
 unfolding after_steps
 underway seed n ops zero size within = underway_first seed n ops
 underway seed n ops (suc steps) size within =
-    underway_acted n ops steps (after_steps n ops (beginning seed n) steps) size (underway seed n ops steps size (omega arith)) (omega arith)
+    underway_acted n ops steps (after_steps n ops (beginning seed n) steps) size (underway seed n ops steps size (omega arith))
+    (omega arith)
 
 counted : (n ops steps : ℕ) (progress : Progress) → IsSampleSize n ops → IsUnderway n ops steps progress → IsCounted n progress
 counted n ops steps progress size underway = record {
@@ -343,11 +368,16 @@ counted n ops steps progress size underway = record {
   numbers_low = underway.numbers_low;
 }
 
-pub can_step : (seed n ops steps : ℕ) → IsSampleSize n ops → steps < step_count ops → CanStep n ops (after_steps n ops (beginning seed n) steps)
+pub can_step : (seed n ops steps : ℕ) → IsSampleSize n ops → steps < step_count ops
+    → CanStep n ops (after_steps n ops (beginning seed n) steps)
 can_step seed n ops steps size more =
     let progress : Progress = after_steps n ops (beginning seed n) steps in
     let is : IsUnderway n ops steps progress = underway seed n ops steps size (omega arith) in
-    record { counted = counted n ops steps progress size is; from_one = size.from_one; some_able = some_able n ops steps progress size is more }
+    record {
+      counted = counted n ops steps progress size is;
+      from_one = size.from_one;
+      some_able = some_able n ops steps progress size is more;
+    }
 
 -- A client that can act may act after the draw.
 pub step_can_act : (n ops client : ℕ) (actors : List Actor) (before after : Progress) → CanStep n ops before → after ≡ after_draw before
@@ -374,10 +404,12 @@ none_able seed n ops size =
     let is : IsUnderway n ops (step_count ops) progress = underway seed n ops (step_count ops) size (omega arith) in
     let all_begun : ops - 1 ≤ progress.begun = omega (arith, is.left) in
     let nothing_owed : owed progress.actors ≡ 0 = omega (arith, is.left) in
-    subst (λ (b : Bool). able_from b 1 progress.actors ≡ []) (sym (le-ltb progress.begun (ops - 1) all_begun)) (none_from_owed 1 progress.actors nothing_owed)
+    subst (λ (b : Bool). able_from b 1 progress.actors ≡ []) (sym (le-ltb progress.begun (ops - 1) all_begun))
+    (none_from_owed 1 progress.actors nothing_owed)
 
 -- Of each step some client can act.
-pub each_able : (seed n ops steps : ℕ) → IsSampleSize n ops → steps < step_count ops → able ops (after_steps n ops (beginning seed n) steps) ≢ []
+pub each_able : (seed n ops steps : ℕ) → IsSampleSize n ops → steps < step_count ops
+    → able ops (after_steps n ops (beginning seed n) steps) ≢ []
 each_able seed n ops steps size more none =
     let some = (can_step seed n ops steps size more).some_able in
     let empty : length (able ops (after_steps n ops (beginning seed n) steps)) ≡ 0 = ap length none in

@@ -49,14 +49,16 @@ can_act may_begin phases.Replied = true
 -- The clients that can act, in ascending order, of these from the given client on.
 abbrev pub able_from : Bool → ℕ → List Actor → List ℕ
 able_from may_begin client [] = []
-able_from may_begin client (actor ∷ actors) = cond (can_act may_begin actor.phase) (client ∷ able_from may_begin (client + 1) actors) (able_from may_begin (client + 1) actors)
+able_from may_begin client (actor ∷ actors) =
+    cond (can_act may_begin actor.phase) (client ∷ able_from may_begin (client + 1) actors) (able_from may_begin (client + 1) actors)
 
 abbrev pub able : ℕ → Progress → List ℕ
 able ops progress = able_from (may_begin_one ops progress) 1 progress.actors
 
 -- A client comes to a phase by an event.
 abbrev pub with_event_of : ℕ → Actor → Event → Progress → Progress
-with_event_of client actor event progress = record progress { actors = slice_set progress.actors (client - 1) actor; events = progress.events ++ event ∷ [] }
+with_event_of client actor event progress =
+    record progress { actors = slice_set progress.actors (client - 1) actor; events = progress.events ++ event ∷ [] }
 
 -- The value of a write names its operation, the t-th of client i.
 abbrev pub value_of : ℕ → ℕ → List ℕ
@@ -64,7 +66,12 @@ value_of i t = decimal i ++ (codes "-" ++ decimal t)
 
 -- A client begins an operation: a write where the draw is even, and else a read of a register that is drawn too.
 abbrev pub begins_with : ℕ → ℕ → Event → Progress → Progress
-begins_with client number event progress = record progress { begun = progress.begun + 1; actors = slice_set progress.actors (client - 1) (record { phase = phases.Begun; number = number }); events = progress.events ++ event ∷ [] }
+begins_with client number event progress =
+    record progress {
+      begun = progress.begun + 1;
+      actors = slice_set progress.actors (client - 1) (record { phase = phases.Begun; number = number });
+      events = progress.events ++ event ∷ [];
+    }
 
 abbrev pub begins_read : ℕ → ℕ → ℕ → Progress → Progress
 begins_read n client number progress = begins_with client number (event.Read client (answer progress.state % n + 1)) progress
@@ -77,12 +84,17 @@ begins_drawn n client number progress = cond (nat_eq (answer progress.state % 2)
 -- What a client does next: it begins its next operation, its SUBMIT arrives, it is handed the reply, its COMMIT arrives.
 abbrev pub goes_on : ℕ → ℕ → ℕ → Phase → Progress → Progress
 goes_on n client number phases.Idle progress = begins_drawn n client (number + 1) (after_draw progress)
-goes_on n client number phases.Begun progress = with_event_of client (record { phase = phases.Arrived; number = number }) (event.Arrive client) progress
-goes_on n client number phases.Arrived progress = with_event_of client (record { phase = phases.Replied; number = number }) (event.Reply client) progress
-goes_on n client number phases.Replied progress = with_event_of client (record { phase = phases.Idle; number = number }) (event.Arrive client) progress
+goes_on n client number phases.Begun progress =
+    with_event_of client (record { phase = phases.Arrived; number = number }) (event.Arrive client) progress
+goes_on n client number phases.Arrived progress =
+    with_event_of client (record { phase = phases.Replied; number = number }) (event.Reply client) progress
+goes_on n client number phases.Replied progress =
+    with_event_of client (record { phase = phases.Idle; number = number }) (event.Arrive client) progress
 
 abbrev pub acts : ℕ → ℕ → Progress → Progress
-acts n client progress = goes_on n client (slice_index_or progress.actors (client - 1) idle).number (slice_index_or progress.actors (client - 1) idle).phase progress
+acts n client progress =
+    goes_on n client (slice_index_or progress.actors (client - 1) idle).number
+    (slice_index_or progress.actors (client - 1) idle).phase progress
 
 -- One step: of the clients that can act the drawn one does what it does next.
 abbrev pub acting_client : ℕ → Progress → ℕ

@@ -33,7 +33,8 @@ IsEditFault n (token ∷ tokens) cause = IsEditFaultOf n (edit_word token) token
 -- The client stands left of the edit.
 abbrev pub IsEditingFault : ℕ → List (List ℕ) → Cause → Type 0
 IsEditingFault n [] cause = cause ≡ causes.Word
-IsEditingFault n (token ∷ tokens) cause = IsFault (client n) token cause ⊎ ((i : ℕ) × SpellsField (client n) i token × IsEditFault n tokens cause)
+IsEditingFault n (token ∷ tokens) cause =
+    IsFault (client n) token cause ⊎ ((i : ℕ) × SpellsField (client n) i token × IsEditFault n tokens cause)
 
 -- Why the tokens behind an event's word are refused.
 abbrev pub IsEventFaultOf : ℕ → Option EventWord → List (List ℕ) → Cause → Type 0
@@ -49,12 +50,18 @@ IsEventFault n (token ∷ tokens) cause = IsEventFaultOf n (event_word token) to
 -- Why the text of a line is refused, by what was read before it.
 abbrev pub IsTextFault : Stage → List ℕ → Cause → Type 0
 IsTextFault (stages.Head head) text cause = IsFirstFault (due_form script_form head) (tokens_of text) cause
-IsTextFault (stages.Events script) text cause = (text ≢ codes "end") × (((cause ≡ causes.Events) × (20000 ≤ length script.events)) ⊎ ((length script.events < 20000) × IsEventFault script.config.clients (tokens_of text) cause))
+IsTextFault (stages.Events script) text cause =
+    (text ≢ codes "end")
+    × (((cause ≡ causes.Events) × (20000 ≤ length script.events))
+    ⊎ ((length script.events < 20000) × IsEventFault script.config.clients (tokens_of text) cause))
 IsTextFault (stages.Ended script) text cause = cause ≡ causes.AfterEnd
 
 -- Why a line is refused: it is too long; or else cut off; or else its text is refused.
 abbrev pub IsLineFault : Stage → TextLine → Cause → Type 0
-IsLineFault stage line cause = ((cause ≡ causes.TooLong) × (40000 < length line.bytes)) ⊎ ((length line.bytes ≤ 40000) × (((cause ≡ causes.CutOff) × (line.ended ≡ false)) ⊎ ((line.ended ≡ true) × IsTextFault stage line.bytes cause)))
+IsLineFault stage line cause =
+    ((cause ≡ causes.TooLong) × (40000 < length line.bytes))
+    ⊎ ((length line.bytes ≤ 40000)
+    × (((cause ≡ causes.CutOff) × (line.ended ≡ false)) ⊎ ((line.ended ≡ true) × IsTextFault stage line.bytes cause)))
 
 -- The input ends before the script does, or the next line is refused.
 abbrev pub IsNotEnded : Stage → Type 0

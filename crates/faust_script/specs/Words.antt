@@ -24,7 +24,9 @@ event_text events.Forge = codes "forge"
 event_text events.Raw = codes "raw"
 
 abbrev pub event_words : List EventWord
-event_words = events.Write ∷ events.Read ∷ events.Arrive ∷ events.Reply ∷ events.Tick ∷ events.Peer ∷ events.Post ∷ events.Branch ∷ events.Route ∷ events.Echo ∷ events.Again ∷ events.Edit ∷ events.Forge ∷ events.Raw ∷ []
+event_words =
+    events.Write ∷ events.Read ∷ events.Arrive ∷ events.Reply ∷ events.Tick ∷ events.Peer ∷ events.Post ∷ events.Branch ∷ events.Route
+    ∷ events.Echo ∷ events.Again ∷ events.Edit ∷ events.Forge ∷ events.Raw ∷ []
 
 -- The event that a token names.
 unfoldable pub event_word : List ℕ → Option EventWord
@@ -49,7 +51,9 @@ edit_text edits.Dtag = codes "dtag"
 edit_text edits.Unread = codes "unread"
 
 abbrev pub edit_words : List EditWord
-edit_words = edits.C ∷ edits.V ∷ edits.M ∷ edits.Ctag ∷ edits.Add ∷ edits.DropTuple ∷ edits.Swap ∷ edits.Ltag ∷ edits.Proof ∷ edits.Noproof ∷ edits.Jv ∷ edits.Jtag ∷ edits.T ∷ edits.Value ∷ edits.Dtag ∷ edits.Unread ∷ []
+edit_words =
+    edits.C ∷ edits.V ∷ edits.M ∷ edits.Ctag ∷ edits.Add ∷ edits.DropTuple ∷ edits.Swap ∷ edits.Ltag ∷ edits.Proof ∷ edits.Noproof
+    ∷ edits.Jv ∷ edits.Jtag ∷ edits.T ∷ edits.Value ∷ edits.Dtag ∷ edits.Unread ∷ []
 
 -- The edit that a token names.
 unfoldable pub edit_word : List ℕ → Option EditWord

@@ -18,7 +18,8 @@ pub fn scripts_are_their_texts()
 pub fn first_refused_lines()
     ensures table { (input : List ℕ) (refusal : Refusal) → (parsed input ≡ Err refusal) ↔ IsRefused input refusal }
     ensures front { (input : List ℕ) (refusal : Refusal) → IsRefused input refusal → CanGoOn (take (refusal.line - 1) (lines_of input)) }
-    ensures first { (input : List ℕ) (refusal : Refusal) → IsRefused input refusal → refusal.line ≤ length (lines_of input) → ¬ (CanGoOn (take refusal.line (lines_of input))) }
+    ensures first { (input : List ℕ) (refusal : Refusal) → IsRefused input refusal → refusal.line ≤ length (lines_of input)
+        → ¬ (CanGoOn (take refusal.line (lines_of input))) }
 {}
 
 /// What has a text is in range.
@@ -37,6 +38,7 @@ pub fn generated_scripts_are_in_range()
 /// The steps of a generated script are made exactly as long as some client can act.
 #[tactic(auto, using(crate::proofs::Steps::each_able, crate::proofs::Steps::none_able))]
 pub fn steps_end_where_no_client_can_act()
-    ensures before { (seed n ops steps : ℕ) → IsSampleSize n ops → steps < step_count ops → able ops (after_steps n ops (beginning seed n) steps) ≢ [] }
+    ensures before { (seed n ops steps : ℕ) → IsSampleSize n ops → steps < step_count ops
+        → able ops (after_steps n ops (beginning seed n) steps) ≢ [] }
     ensures behind { (seed n ops : ℕ) → IsSampleSize n ops → able ops (after_steps n ops (beginning seed n) (step_count ops)) ≡ [] }
 {}

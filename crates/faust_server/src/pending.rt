@@ -44,7 +44,8 @@ impl Pending {
     /// Takes out the tuple of client i and all before it, where there is one.
     pub fn leave_through(&mut self, i: u8)
         ensures value { self.new ≡ behind i self.old }
-        ensures found { (before rest : List Tuple) (tuple : Tuple) → self.old ≡ before ++ tuple ∷ rest → tuples_by i before ≡ 0 → tuple.client ≡ i → self.new ≡ rest }
+        ensures found { (before rest : List Tuple) (tuple : Tuple) → self.old ≡ before ++ tuple ∷ rest → tuples_by i before ≡ 0
+            → tuple.client ≡ i → self.new ≡ rest }
         ensures absent { tuples_by i self.old ≡ 0 → self.new ≡ self.old }
     {
         if let Some(place) = place_of(&self.tuples, i) {

@@ -14,7 +14,8 @@ impl Turn {
     /// Whether a SUBMIT with the number t is in turn.
     pub fn admit_submit(self, t: u64) -> Result<(), OutOfTurn>
         requires { self.last < 2 ^ 40 }
-        ensures { MatchResult result (λ _. is_submit_in_turn self t ≡ true) (λ e. (is_submit_in_turn self t ≡ false) × (e ≡ out_of_turn self t)) }
+        ensures { MatchResult result (λ _. is_submit_in_turn self t ≡ true)
+            (λ e. (is_submit_in_turn self t ≡ false) × (e ≡ out_of_turn self t)) }
     {
         if !self.uncommitted && t == self.last + 1 {
             Ok(())
@@ -26,7 +27,8 @@ impl Turn {
     /// Whether a COMMIT of the operation with the number t is in turn.
     pub fn admit_commit(self, t: u64) -> Result<(), OutOfTurn>
         requires { self.last < 2 ^ 40 }
-        ensures { MatchResult result (λ _. is_commit_in_turn self t ≡ true) (λ e. (is_commit_in_turn self t ≡ false) × (e ≡ out_of_turn self t)) }
+        ensures { MatchResult result (λ _. is_commit_in_turn self t ≡ true)
+            (λ e. (is_commit_in_turn self t ≡ false) × (e ≡ out_of_turn self t)) }
     {
         if self.uncommitted && t == self.last {
             Ok(())

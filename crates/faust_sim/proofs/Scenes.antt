@@ -185,7 +185,8 @@ arrival-fits config liar i bytes fits by =
     (subst (λ (n : ℕ). IsArrival config.wire n i bytes) (sym fits.counted) (arrival-in_range config i bytes by))
 
 -- the liar stays one for the config
-pub liar-stays : (config : Config) (old new : LiarState) → IsLiarOf config old → IsFor old.wire (session_count old) new → IsLiarOf config new
+pub liar-stays : (config : Config) (old new : LiarState) → IsLiarOf config old → IsFor old.wire (session_count old) new
+    → IsLiarOf config new
 liar-stays config old new fits frame =
     record { wire_is = frame.same_wire ∙ fits.wire_is; counted = frame.same_count ∙ fits.counted }
 

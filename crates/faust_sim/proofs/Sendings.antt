@@ -188,7 +188,10 @@ step-given config me st entry range client order step =
     let fits : IsDeedFor config me st deed = deed-in_range config me st event client order.kept
     (event-in_range config me st entry.input range client step.may_come) in (
       deed-given config me st deed entry order.kept client fits order.holds step.outcome_is,
-      record { kept = kept-after config me st deed client order.kept fits; holds = holds-after config me st deed order.kept client fits order.holds },
+      record {
+        kept = kept-after config me st deed client order.kept fits;
+        holds = holds-after config me st deed order.kept client fits order.holds;
+      },
     )
 
 -- all entries of a client

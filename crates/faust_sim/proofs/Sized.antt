@@ -122,7 +122,8 @@ post-sized : (config : Config) (i : ℕ) (post : Post) → IsClientCount config.
 post-sized config i post count by =
     let short : length (spelling config.wire (messages.Peer by.message)) ≤ 8977 =
     spelling_at_most config.wire config.clients (messages.Peer by.message) count by.in_range in
-    let same : length post.bytes ≡ length (spelling config.wire (messages.Peer by.message)) = ap (λ (p : Post). length p.bytes) by.spelled in
+    let same : length post.bytes ≡ length (spelling config.wire (messages.Peer by.message)) =
+    ap (λ (p : Post). length p.bytes) by.spelled in
     omega (arith, short, same)
 
 posts-sized : (config : Config) (i j : ℕ) (posts : List Post) → IsClientCount config.clients → AllByRecursion (IsPostedBy config i) posts

@@ -146,7 +146,8 @@ impl Stage {
         requires liar { IsLiarState self.old.liar }
         requires client { IsClient self.old.run.config.clients client }
         requires edit { IsEditFor self.old.run.config.clients edit.now }
-        ensures { Comes result self.new (handed self.old.run client (edited_due self.old.liar client edit.now (Some self.old.run.config.key))) }
+        ensures { Comes result self.new (handed self.old.run client
+            (edited_due self.old.liar client edit.now (Some self.old.run.config.key))) }
     {
         let key = self.run.config().key.as_slice();
         let out = self.liar.edited(client, edit, Some(key));
@@ -158,7 +159,8 @@ impl Stage {
         requires kept { IsKept self.old }
         requires client { IsClient self.old.run.config.clients client }
         requires sized { IfOk out (λ bytes. length bytes ≤ 16384) }
-        ensures { (due : Result Handed LiarError) → IsHanded out self.old.liar due → Comes result self.new (handed self.old.run client due) }
+        ensures { (due : Result Handed LiarError) → IsHanded out self.old.liar due
+            → Comes result self.new (handed self.old.run client due) }
     {
         match out {
             Ok(bytes) => self.push(client, PushInput::Reply(bytes)),
@@ -172,7 +174,8 @@ impl Stage {
         requires sender { IsClient self.old.run.config.clients sender }
         requires receiver { IsClient self.old.run.config.clients receiver }
         requires counted { 1 ≤ k }
-        ensures { Comes result self.new (delivered (scene_of self.old) receiver (slice_get (mailed sender receiver self.old.run.entries) (k - 1))) }
+        ensures { Comes result self.new (delivered (scene_of self.old) receiver
+            (slice_get (mailed sender receiver self.old.run.entries) (k - 1))) }
     {
         let Some(bytes) = self.mail.letter(&self.run, sender, receiver, k) else {
             return Err(LineError::Refused(Cause::Nothing));

@@ -36,11 +36,19 @@ sent-handed_in : (config : Config) (sent : Sent) → IsConfig config → IsSentF
 sent-handed_in config (submits submit) range fits =
     let short : length (spelling config.wire (messages.Submit submit)) ≤ 8977 =
     spelling_at_most config.wire config.clients (messages.Submit submit) range.clients_count fits.0 in
-    record { sized = omega (arith, short); bytes_each = AreBytes-spelling config.wire config.clients (messages.Submit submit) range.wire_known range.clients_count fits.0 }
+    record {
+      sized = omega (arith, short);
+      bytes_each =
+          AreBytes-spelling config.wire config.clients (messages.Submit submit) range.wire_known range.clients_count fits.0;
+    }
 sent-handed_in config (commits commit) range fits =
     let short : length (spelling config.wire (messages.Commit commit)) ≤ 8977 =
     spelling_at_most config.wire config.clients (messages.Commit commit) range.clients_count fits in
-    record { sized = omega (arith, short); bytes_each = AreBytes-spelling config.wire config.clients (messages.Commit commit) range.wire_known range.clients_count fits }
+    record {
+      sized = omega (arith, short);
+      bytes_each =
+          AreBytes-spelling config.wire config.clients (messages.Commit commit) range.wire_known range.clients_count fits;
+    }
 
 spelled-handed_in : (config : Config) (sent : Option Sent) → IsConfig config → IfSome sent (IsSentFor config)
     → AllByRecursion AreHandedIn (option_to_list (spelled_sent config.wire sent))
@@ -78,7 +86,8 @@ unfolding outcome_at state_at
 step-sends config me st entry range client kept step =
     let deed : Deed = deed_of config me st (event_of config me entry.input) in
     let fits : IsDeedFor config me st deed =
-    deed-in_range config me st (event_of config me entry.input) client kept (event-in_range config me st entry.input range client step.may_come) in
+    deed-in_range config me st (event_of config me entry.input) client kept
+    (event-in_range config me st entry.input range client step.may_come) in
     record {
       sent = deed-sends config me st deed entry.outcome range kept fits step.outcome_is;
       kept = kept-after config me st deed client kept fits;
@@ -139,7 +148,8 @@ pub entry_behind : (config : Config) (front rest : List Entry) (e : Entry) → I
 entry_behind config front rest e run =
     let client = clients-at config.clients front rest e run.of_clients in
     let short = run-front config (front ++ e ∷ []) rest (subst (IsRun config) (sym (append_assoc front (e ∷ []) rest)) run) in
-    let own = subst (λ (l : List Entry). Obeys config e.client (first_client config.clients e.client) l) (entries_of-own e.client front e refl)
+    let own = subst (λ (l : List Entry). Obeys config e.client (first_client config.clients e.client) l)
+    (entries_of-own e.client front e refl)
     (short.obeyed e.client client) in
     record {
       front_is_run = run-front config front (e ∷ rest) run;

@@ -20,10 +20,12 @@ use Rattle.faust_store.specs.Feeding.{Feeds, HasTaken, IsEndedAt, IsFed, IsFeed,
 use Rattle.faust_store.specs.Reading.{Reads, Refusal, and_then_lines, lines_from, refused_at, stage_at}
 
 -- Bytes without a line feed, and then one: that is the first line, whatever follows.
-first_ended : (bytes rest : List ℕ) → IsWithout 10 bytes → lines_of ((bytes ++ 10 ∷ []) ++ rest) ≡ record { bytes = bytes; ended = true } ∷ lines_of rest
+first_ended : (bytes rest : List ℕ) → IsWithout 10 bytes
+    → lines_of ((bytes ++ 10 ∷ []) ++ rest) ≡ record { bytes = bytes; ended = true } ∷ lines_of rest
 first_ended [] rest none = refl
 first_ended (b ∷ bs) rest none =
-    cond-false (eqb b 10) (record { bytes = []; ended = true } ∷ lines_of ((bs ++ 10 ∷ []) ++ rest)) _ none.0 ∙ ap (begun b) (first_ended bs rest none.1)
+    cond-false (eqb b 10) (record { bytes = []; ended = true } ∷ lines_of ((bs ++ 10 ∷ []) ++ rest)) _ none.0
+    ∙ ap (begun b) (first_ended bs rest none.1)
 
 first_without : (line : TextLine) (lines : List TextLine) → AreInOrder (line ∷ lines) → IsWithout 10 line.bytes
 first_without line [] ordered = ordered.0
@@ -78,7 +80,8 @@ line_ended bytes from line begins ended =
 
 pub line_open : (bytes : List ℕ) (from : ℕ) (line : Line) → BeginsAt bytes from line → line.ended ≡ false → IsWithout 10 (drop from bytes)
 line_open bytes from line begins open_end =
-    last_without (line_in bytes line) (lines_of (drop (line.span.end + 1) bytes)) (drop from bytes) (ordered_at bytes from line begins) open_end
+    last_without (line_in bytes line) (lines_of (drop (line.span.end + 1) bytes)) (drop from bytes)
+    (ordered_at bytes from line begins) open_end
     ((are_lines (drop from bytes)).together ∙ ap (flat_map whole) begins.lines_from)
 
 pub no_line : (bytes : List ℕ) (from : ℕ) → lines_of (drop from bytes) ≡ [] → IsWithout 10 (drop from bytes)
@@ -121,7 +124,8 @@ longer b bytes lines has = record {
 
 first_long : (b : ℕ) (bytes later : List ℕ) → IsWithout 10 (b ∷ bytes) → HasLong (b ∷ bytes) (lines_of ((b ∷ bytes) ++ later))
 first_long b [] later none =
-    subst (HasLong (b ∷ [])) (sym (cond-false (eqb b 10) (record { bytes = []; ended = true } ∷ lines_of later) (begun b (lines_of later)) none.0))
+    subst (HasLong (b ∷ []))
+    (sym (cond-false (eqb b 10) (record { bytes = []; ended = true } ∷ lines_of later) (begun b (lines_of later)) none.0))
     (long_begun b (lines_of later))
 first_long b (c ∷ cs) later none =
     let more = lines_of ((c ∷ cs) ++ later) in
@@ -145,7 +149,8 @@ too_long stage number (b ∷ bs) later none many =
     long_refused stage number (b ∷ bs) (lines_of ((b ∷ bs) ++ later)) (first_long b bs later none) many
 
 -- What is kept behind whole lines answers what the bytes do.
-kept : (start : Stage) (first : ℕ) (bytes : List ℕ) (left : ℕ) (taken : Taken) → HasTaken start first bytes taken → first + left + length bytes < 2 ^ 63
+kept : (start : Stage) (first : ℕ) (bytes : List ℕ) (left : ℕ) (taken : Taken) → HasTaken start first bytes taken
+    → first + left + length bytes < 2 ^ 63
     → IsFed start first bytes left (record { stage = taken.stage; number = taken.number; rest = drop taken.from bytes; left = left })
 unfolding due_of
 kept start first bytes left taken has few = record {
@@ -158,13 +163,15 @@ kept start first bytes left taken has few = record {
 }
 
 pub fed_on : (start : Stage) (first : ℕ) (bytes : List ℕ) (left : ℕ) (taken : Taken) (result : Result Feed StoreError)
-    → HasTaken start first bytes taken → first + left + length bytes < 2 ^ 63 → KeepsRest result taken bytes left → Feeds result start first bytes left
+    → HasTaken start first bytes taken → first + left + length bytes < 2 ^ 63 → KeepsRest result taken bytes left
+    → Feeds result start first bytes left
 fed_on start first bytes left taken (Ok next) has few is =
     subst (λ (f : Feed). IsFed start first bytes left f) (sym is) (kept start first bytes left taken has few)
 fed_on start first bytes left taken (Err (errors.BadRecord line cause)) has few is = λ later.
     has.so_far later
     ∙ (too_long taken.stage taken.number (drop taken.from bytes) later has.no_more is.2
-    ∙ (ap (λ l. Err (record { line = l; cause = causes.TooLong })) (sym is.0) ∙ ap (λ k. Err (record { line = line; cause = k })) (sym is.1)))
+    ∙ (ap (λ l. Err (record { line = l; cause = causes.TooLong })) (sym is.0)
+    ∙ ap (λ k. Err (record { line = line; cause = k })) (sym is.1)))
 fed_on start first bytes left taken (Err errors.OutOfMemory) has few is = λ later. tt
 
 -- A piece is taken where the bytes so far and the piece are fed.

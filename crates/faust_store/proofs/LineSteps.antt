@@ -40,7 +40,8 @@ pub after_line : (number : ℕ) (lines : List TextLine) (r : Result Stage Cause)
 after_line number lines (Ok next) run found = (next, refl, found)
 after_line number lines (Err cause) run found = absurd (cc)
 
-pub step_found : (stage next : Stage) (number : ℕ) (text : List ℕ) (lines : List TextLine) → length text ≤ 40000 → text_at stage text ≡ Ok next
+pub step_found : (stage next : Stage) (number : ℕ) (text : List ℕ) (lines : List TextLine) → length text ≤ 40000
+    → text_at stage text ≡ Ok next
     → lines_from stage number (ended_line text ∷ lines) ≡ lines_from next (number + 1) lines
 unfolding lines_from stage_at
 step_found stage next number text lines few read =
@@ -125,7 +126,8 @@ tokens_taken version run e rest (token ∷ tokens) is_run room spelled =
     let takes : Result Stage Cause = taken run line >>= (λ next. Ok (stages.Entries version next)) in
     let said = entry_found version run.config.clients line token tokens digits
     (spells_said version run.config.clients e.client e.input tokens spelled.1) in
-    let pushed = taken_by version run (recorded run e) e.client e.input (entries_are_pushed run.config run.entries rest e is_run) at.is_fed in
+    let pushed = taken_by version run (recorded run e) e.client e.input
+    (entries_are_pushed run.config run.entries rest e is_run) at.is_fed in
     ap (λ o. ended_or o run (entry_taken version run (token ∷ tokens))) (not_the_end token tokens digits)
     ∙ (cond-false (leb 20000 count) (Err causes.Events)
     (entry_at version run.config.clients (token ∷ tokens) >>= (λ given. numbered version run given.0 given.1)) (lt-leb _ _ room)
@@ -218,7 +220,8 @@ numbered_only version run tokens next given is_run room found is =
           let fits = entry_in_range version run.config.clients tokens given found in
           let t = taken_only version run.config.clients run after.0 given.1 is_run fits after.1 in
           let line = entry_only version run.config.clients tokens given found in
-          let token_is : given.0 ≡ decimal t.entry.number = (bytes_eq-Decides given.0 (decimal count)).0 due.0 ∙ ap decimal (sym t.number_is) in
+          let token_is : given.0 ≡ decimal t.entry.number = (bytes_eq-Decides given.0 (decimal count)).0 due.0
+          ∙ ap decimal (sym t.number_is) in
           record {
             entry = t.entry;
             room = room;
@@ -249,7 +252,8 @@ ended_or-only version run tokens next (Some token) some is_run is =
     let count = length run.entries in
     elim (chosen (is_number_of count token) (Ok (stages.Ended run)) (Err causes.Order) (Ok next) is) [
       | inl due ↦ inl (
-        subst (λ (t : List ℕ). SpellsFields end_form (tt, (t, tt)) tokens) ((bytes_eq-Decides token (decimal count)).0 due.0) (end_only tokens token some),
+        subst (λ (t : List ℕ). SpellsFields end_form (tt, (t, tt)) tokens) ((bytes_eq-Decides token (decimal count)).0 due.0)
+            (end_only tokens token some),
         ok_same (stages.Ended run) next due.1,
       )
       | inr other ↦ absurd (let e = other.1 in cc)
@@ -291,7 +295,8 @@ entries_only version run number (line ∷ lines) made is_run few found =
       | inr item ↦
           let grown = recorded run item.entry in
           let count : length grown.entries ≤ 20000 = omega (arith, item.room, length-append run.entries (item.entry ∷ [])) in
-          let more = entries_only version grown (number + 1) lines made item.is_run count (ap (λ st. lines_from st (number + 1) lines) item.next_is ∙ next.2) in
+          let more = entries_only version grown (number + 1) lines made item.is_run count
+          (ap (λ st. lines_from st (number + 1) lines) item.next_is ∙ next.2) in
           let joined : (run.entries ++ item.entry ∷ []) ++ more.entries ≡ run.entries ++ (item.entry ∷ more.entries) =
           append_assoc run.entries (item.entry ∷ []) more.entries in
           record {

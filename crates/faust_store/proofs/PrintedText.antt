@@ -76,7 +76,8 @@ whole_text run version =
     let last = end_line (length run.entries) in
     let end = last ++ 10 ∷ [] in
     ended_text-append head (lines ++ last ∷ [])
-    ∙ (ap (λ (t : List ℕ). ended_text head ++ t) (ended_text-append lines (last ∷ []) ∙ ap (λ (t : List ℕ). ended_text lines ++ t) (append-nil end))
+    ∙ (ap (λ (t : List ℕ). ended_text head ++ t) (ended_text-append lines (last ∷ [])
+    ∙ ap (λ (t : List ℕ). ended_text lines ++ t) (append-nil end))
     ∙ sym (append_assoc (ended_text head) (ended_text lines) end))
 
 -- One entry on, and the end.

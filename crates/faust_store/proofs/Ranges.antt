@@ -43,7 +43,8 @@ made_in_range fields make tokens x P each found =
     let spelled = (fields_spell fields tokens given.0).0 given.1 in
     subst P (ok_same (make given.0) x given.2) (each given.0 (fields_in_range fields given.0 tokens spelled))
 
-next_in_range : (field : Field) (tokens : List (List ℕ)) (x : Given field × List (List ℕ)) → next_field field tokens ≡ Ok x → IsInRange field x.0
+next_in_range : (field : Field) (tokens : List (List ℕ)) (x : Given field × List (List ℕ)) → next_field field tokens ≡ Ok x
+    → IsInRange field x.0
 next_in_range field [] x found = absurd (cc)
 next_in_range field (token ∷ tokens) x found =
     let given = bind_ok (field_at field token) (λ g. Ok (g, tokens)) x found in
@@ -51,7 +52,8 @@ next_in_range field (token ∷ tokens) x found =
     let range = fields_in_range (field ∷ []) (given.0, tt) (token ∷ []) (spelled, tt) in
     subst (λ (y : Given field × List (List ℕ)). IsInRange field y.0) (ok_same (given.0, tokens) x given.2) range.0
 
-begun_in_range : (n i : ℕ) (k : Kind) (tokens : List (List ℕ)) (line : EntryLine) → IsClient n i → begun_by n i k tokens ≡ Ok line → IsLineFor n line
+begun_in_range : (n i : ℕ) (k : Kind) (tokens : List (List ℕ)) (line : EntryLine) → IsClient n i → begun_by n i k tokens ≡ Ok line
+    → IsLineFor n line
 unfolding begun_by
 begun_in_range n i kinds.Write tokens line own found =
     made_in_range (begin_form n kinds.Write) (λ given. lines.Comes i (inputs.Write given.0)) tokens line (IsLineFor n)
@@ -100,7 +102,8 @@ line_in_range version n [] line found = absurd (cc)
 line_in_range version n (token ∷ tokens) line found = named_in_range version n (entry_word token) tokens line found
 
 -- What an entry's line says is in range.
-pub entry_in_range : (version n : ℕ) (tokens : List (List ℕ)) (given : List ℕ × EntryLine) → entry_at version n tokens ≡ Ok given → IsLineFor n given.1
+pub entry_in_range : (version n : ℕ) (tokens : List (List ℕ)) (given : List ℕ × EntryLine) → entry_at version n tokens ≡ Ok given
+    → IsLineFor n given.1
 unfolding entry_at
 entry_in_range version n tokens given found =
     let q = bind_ok (next_field any_number tokens) (λ q. line_at version n q.1 >>= (λ line. Ok (q.0, line))) given found in
@@ -151,13 +154,15 @@ line_kept (heads.Dummy formats n bytes delta) given kept range = record {
 }
 
 -- A line of a head leaves it in range, and a whole head is a config in range.
-pub head_kept : (head : Head) (tokens : List (List ℕ)) (step : HeadStep) → IsHead head → head_at record_form head tokens ≡ Ok step → IsStep step
+pub head_kept : (head : Head) (tokens : List (List ℕ)) (step : HeadStep) → IsHead head → head_at record_form head tokens ≡ Ok step
+    → IsStep step
 head_kept head tokens step kept found =
     let read = head_step-only record_form head tokens step found in
     subst IsStep read.next_is
     (line_kept head read.given kept (fields_in_range (due_form record_form head) read.given tokens read.spelled))
 
-pub head_goes_on : (head next : Head) (tokens : List (List ℕ)) → IsHead head → head_at record_form head tokens ≡ Ok (Next next) → IsHead next
+pub head_goes_on : (head next : Head) (tokens : List (List ℕ)) → IsHead head → head_at record_form head tokens ≡ Ok (Next next)
+    → IsHead next
 head_goes_on head next tokens kept found = head_kept head tokens (Next next) kept found
 
 pub config_kept : (head : Head) (version : ℕ) (config : Config) (tokens : List (List ℕ)) → IsHead head

@@ -59,7 +59,8 @@ head_only (line ∷ lines) head number run kept found =
     elim (step_cases step.0) [
       | inl more_head ↦
           let on : stages.Head more_head.0 ≡ next.0 = sym (ap after_head more_head.1) ∙ stage_is in
-          let more = head_only lines more_head.0 (number + 1) run (subst IsStep more_head.1 ranged) (ap (λ st. lines_from st (number + 1) lines) on ∙ next.2) in
+          let more = head_only lines more_head.0 (number + 1) run (subst IsStep more_head.1 ranged)
+          (ap (λ st. lines_from st (number + 1) lines) on ∙ next.2) in
           record {
             texts = text.0 ∷ more.texts;
             version = more.version;
@@ -68,7 +69,8 @@ head_only (line ∷ lines) head number run kept found =
             number_behind = more.number_behind;
             lines_are = ap (λ l. l ∷ lines) whole.0 ∙ ap (λ ls. ended_line text.0 ∷ ls) more.lines_are;
             fit = (whole.1, more.fit);
-            read_texts = ap (λ r. r >>= (λ s. head_read record_form s more.texts)) step.1 ∙ (ap (λ s. head_read record_form s more.texts) more_head.1 ∙ more.read_texts);
+            read_texts = ap (λ r. r >>= (λ s. head_read record_form s more.texts)) step.1
+                ∙ (ap (λ s. head_read record_form s more.texts) more_head.1 ∙ more.read_texts);
             whole = more.whole;
             rest = more.rest;
           }
@@ -105,18 +107,22 @@ config_in default (Whole version config) = config
 head_found : (texts : List (List ℕ)) (head : Head) (number version : ℕ) (config : Config) (behind : List TextLine)
     → AllByRecursion FitsLine texts
     → head_read record_form (Next head) texts ≡ Ok (Whole version config)
-    → lines_from (stages.Head head) number (ended_lines texts ++ behind) ≡ lines_from (stages.Entries version (first_run config)) (number + length texts) behind
+    → lines_from (stages.Head head) number (ended_lines texts ++ behind) ≡ lines_from (stages.Entries version (first_run config))
+    (number + length texts) behind
 head_found [] head number version config behind fit found = absurd (let e = ok_same (Next head) (Whole version config) found in cc)
 head_found (text ∷ texts) head number version config behind fit found =
     let step = bind_ok (head_at record_form head (tokens_of text)) (λ s. head_read record_form s texts) (Whole version config) found in
-    let first = step_found (stages.Head head) (after_head step.0) number text (ended_lines texts ++ behind) fit.0 (head_line_read head step.0 text step.1) in
+    let first = step_found (stages.Head head) (after_head step.0) number text (ended_lines texts ++ behind) fit.0
+    (head_line_read head step.0 text step.1) in
     elim (step_cases step.0) [
       | inl more ↦
-          let rest = head_found texts more.0 (number + 1) version config behind fit.1 (ap (λ s. head_read record_form s texts) (sym more.1) ∙ step.2) in
+          let rest = head_found texts more.0 (number + 1) version config behind fit.1
+          (ap (λ s. head_read record_form s texts) (sym more.1) ∙ step.2) in
           first ∙ (ap (λ s. lines_from (after_head s) (number + 1) (ended_lines texts ++ behind)) more.1
           ∙ (rest ∙ ap (λ q. lines_from (stages.Entries version (first_run config)) q behind) (omega arith)))
       | inr made ↦
-          let last = nothing_behind record_form made.0 made.1 texts version config (ap (λ s. head_read record_form s texts) (sym made.2) ∙ step.2) in
+          let last = nothing_behind record_form made.0 made.1 texts version config (ap (λ s. head_read record_form s texts) (sym made.2)
+          ∙ step.2) in
           let same_version : made.0 ≡ version = ap (version_in made.0) last.1 in
           let same : made.1 ≡ config = ap (config_in made.1) last.1 in
           let none = ap length last.0 in
@@ -193,7 +199,8 @@ record_found version input run is =
     let head = (heads_are record_form is.head version config).1 is.head_spelled in
     ap (lines_from start 1) lines
     ∙ (head_found is.head heads.Title 1 version config (ended_lines behind) fit.0 head
-    ∙ entries_found version (first_run config) (1 + length is.head) run.entries is.lines is.last is.is_run is.few_entries is.entries_spelled is.last_spelled fit.1)
+    ∙ entries_found version (first_run config)
+    (1 + length is.head) run.entries is.lines is.last is.is_run is.few_entries is.entries_spelled is.last_spelled fit.1)
 
 -- Bytes are read as the run whose record they are, and no other bytes are read.
 pub record_texts : (input : List ℕ) (run : Run) → (read input ≡ Ok run) ↔ IsRecord run input

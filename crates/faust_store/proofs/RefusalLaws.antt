@@ -65,7 +65,8 @@ faulty fields make tokens cause =
 abbrev and_token : {A : Type 0} → List (List ℕ) → A → Result (A × List (List ℕ)) Cause
 and_token tokens x = Ok (x, tokens)
 
-then_fault : {X : Type 0} (field : Field) (f : (Given field × List (List ℕ)) → Result X Cause) (Behind : Given field → List (List ℕ) → Type 0) (cause : Cause)
+then_fault : {X : Type 0} (field : Field) (f : (Given field × List (List ℕ)) → Result X Cause) (Behind : Given field → List (List ℕ)
+    → Type 0) (cause : Cause)
     → ((given : Given field) (tokens : List (List ℕ)) → (f (given, tokens) ≡ Err cause) ↔ Behind given tokens)
     → (tokens : List (List ℕ)) → ((next_field field tokens >>= f) ≡ Err cause) ↔ IsFaultThen field Behind tokens cause
 then_fault field f Behind cause law [] = (λ found. cc, λ is. ap Err (sym is))
@@ -79,14 +80,17 @@ then_fault {X} field f Behind cause law (token ∷ tokens) = (
   ],
   λ is.
       let out : (next_field field (token ∷ tokens) >>= f) ≡ Err cause = elim is [
-        | inl there ↦ ap (λ (r : Result (Given field) Cause). (r >>= (λ g. Ok (g, tokens))) >>= f) ((field_faults field token cause).1 there)
-        | inr behind ↦ ap (λ (r : Result (Given field) Cause). (r >>= (λ g. Ok (g, tokens))) >>= f) ((field_spells field token behind.0).1 behind.1)
+        | inl there ↦ ap (λ (r : Result (Given field) Cause). (r >>= (λ g. Ok (g, tokens))) >>= f)
+            ((field_faults field token cause).1 there)
+        | inr behind ↦ ap (λ (r : Result (Given field) Cause). (r >>= (λ g. Ok (g, tokens))) >>= f)
+            ((field_spells field token behind.0).1 behind.1)
             ∙ (law behind.0 tokens).1 behind.2
       ] in out,
 )
 
 -- The tokens of an entry.
-begun-fault : (n i : ℕ) (k : Kind) (tokens : List (List ℕ)) (cause : Cause) → (begun_by n i k tokens ≡ Err cause) ↔ IsFirstFault (begin_form n k) tokens cause
+begun-fault : (n i : ℕ) (k : Kind) (tokens : List (List ℕ)) (cause : Cause)
+    → (begun_by n i k tokens ≡ Err cause) ↔ IsFirstFault (begin_form n k) tokens cause
 unfolding begun_by
 begun-fault n i kinds.Write tokens cause = faulty (begin_form n kinds.Write) (λ given. said.Comes i (inputs.Write given.0)) tokens cause
 begun-fault n i kinds.Read tokens cause = faulty (begin_form n kinds.Read) (λ given. said.Comes i (inputs.Read given.0)) tokens cause
@@ -97,7 +101,8 @@ kind_behind n i k = begun_by n i k.0 k.1
 abbrev begun_behind : ℕ → (ℕ × List (List ℕ)) → Result EntryLine Cause
 begun_behind n i = next_field kind i.1 >>= kind_behind n i.0
 
-begin-fault : (n : ℕ) (tokens : List (List ℕ)) (cause : Cause) → ((next_field (client n) tokens >>= begun_behind n) ≡ Err cause) ↔ IsBeginFault n tokens cause
+begin-fault : (n : ℕ) (tokens : List (List ℕ)) (cause : Cause) → ((next_field (client n) tokens >>= begun_behind n) ≡ Err cause)
+    ↔ IsBeginFault n tokens cause
 begin-fault n tokens cause =
     then_fault (client n) (begun_behind n) (λ i behind. IsKindFault n behind cause) cause
     (λ i behind. then_fault kind (kind_behind n i) (λ k rest. IsFirstFault (begin_form n k) rest cause) cause
@@ -124,7 +129,8 @@ named-fault : (version n : ℕ) (word : Option EntryWord) (tokens : List (List �
 named-fault version n None tokens cause = (λ found. cc, λ is. ap Err (sym is))
 named-fault version n (Some word) tokens cause = worded-fault version n word tokens cause
 
-word-fault : (version n : ℕ) (tokens : List (List ℕ)) (cause : Cause) → (line_at version n tokens ≡ Err cause) ↔ IsWordFault version n tokens cause
+word-fault : (version n : ℕ) (tokens : List (List ℕ)) (cause : Cause)
+    → (line_at version n tokens ≡ Err cause) ↔ IsWordFault version n tokens cause
 unfolding line_at
 word-fault version n [] cause = (λ found. cc, λ is. ap Err (sym is))
 word-fault version n (token ∷ tokens) cause = named-fault version n (entry_word token) tokens cause
@@ -145,7 +151,8 @@ numbered-fault version n q tokens cause =
     let law = word-fault version n tokens cause in
     (λ found. law.0 (there.0 found), λ is. there.1 (law.1 is))
 
-entry-fault : (version n : ℕ) (tokens : List (List ℕ)) (cause : Cause) → (entry_at version n tokens ≡ Err cause) ↔ IsEntryFault version n tokens cause
+entry-fault : (version n : ℕ) (tokens : List (List ℕ)) (cause : Cause)
+    → (entry_at version n tokens ≡ Err cause) ↔ IsEntryFault version n tokens cause
 unfolding entry_at
 entry-fault version n tokens cause =
     then_fault any_number (line_behind version n) (λ q behind. IsWordFault version n behind cause) cause
@@ -191,7 +198,8 @@ cant_write run i value cause short =
     let entry = entry_of run.config i st (length run.entries) (comes.Write value) in
     let fits = cond-true (nat_le (length value) 4096) (begin_refused i st) (Some refusals.TooLong) (le-leb _ _ short) in
     let law = cant_begin run entry st.notice (is_idle i st) cause in
-    let same : pushed (push_of run i (inputs.Write value)) ≡ beginning run entry st.notice (is_idle i st) = ap (λ r. pushed (recorded_unless run entry r)) fits in
+    let same : pushed (push_of run i (inputs.Write value)) ≡ beginning run entry st.notice (is_idle i st) =
+    ap (λ r. pushed (recorded_unless run entry r)) fits in
     (λ found. law.0 (sym same ∙ found), λ is. same ∙ law.1 is)
 
 cant_read : (run : Run) (i register : ℕ) (cause : Cause) → IsClient run.config.clients register
@@ -200,10 +208,12 @@ unfolding acted
 cant_read run i register cause client =
     let st = client_in run i in
     let entry = entry_of run.config i st (length run.entries) (comes.Read register) in
-    let known = and_from (nat_le 1 register) (nat_le register run.config.clients) (le-leb 1 register client.from_one) (le-leb register run.config.clients client.to_n) in
+    let known = and_from (nat_le 1 register) (nat_le register run.config.clients) (le-leb 1 register client.from_one)
+    (le-leb register run.config.clients client.to_n) in
     let fits = cond-true (is_register run.config.clients register) (begin_refused i st) (Some refusals.NoRegister) known in
     let law = cant_begin run entry st.notice (is_idle i st) cause in
-    let same : pushed (push_of run i (inputs.Read register)) ≡ beginning run entry st.notice (is_idle i st) = ap (λ r. pushed (recorded_unless run entry r)) fits in
+    let same : pushed (push_of run i (inputs.Read register)) ≡ beginning run entry st.notice (is_idle i st) =
+    ap (λ r. pushed (recorded_unless run entry r)) fits in
     (λ found. law.0 (sym same ∙ found), λ is. same ∙ law.1 is)
 
 cant_arrive_at : (run : Run) (i : ℕ) (due : Option (List ℕ)) (cause : Cause)
@@ -236,7 +246,10 @@ cant_arrive_as run i message (Some due) cause =
     let next : Result Run Cause = pushed (arrived_at run i (Some due)) in (
       λ found. elim (chosen (bytes_eq due message) next (Err causes.Frame) (Err cause) found) [
         | inl same ↦ absurd (let e = same.1 in cc)
-        | inr other ↦ inr (let e = other.1 in cc, (due, refl, λ same. both_ways (bytes_eq due message) other.0 ((bytes_eq-Decides due message).1 same)))
+        | inr other ↦ inr (
+          let e = other.1 in cc,
+          (due, refl, λ same. both_ways (bytes_eq due message) other.0 ((bytes_eq-Decides due message).1 same)),
+        )
       ],
       λ is.
           let out : as_message run i message (Some due) ≡ Err cause = elim is [
@@ -249,14 +262,16 @@ cant_arrive_as run i message (Some due) cause =
           ] in out,
     )
 
-cant_come_as : (run : Run) (i : ℕ) (message : List ℕ) (cause : Cause) → (arriving_as run i message ≡ Err cause) ↔ CantTake run (said.Arrives i message) cause
+cant_come_as : (run : Run) (i : ℕ) (message : List ℕ) (cause : Cause)
+    → (arriving_as run i message ≡ Err cause) ↔ CantTake run (said.Arrives i message) cause
 unfolding arrived
 cant_come_as run i message cause = cant_arrive_as run i message (next_message i run.entries) cause
 
 never : (run : Run) (entry : Entry) (cause : Cause) → (pushed (recorded_unless run entry None) ≡ Err cause) ↔ ⊥
 never run entry cause = (λ found. absurd (cc), λ is. absurd is)
 
-cant_take : (run : Run) (line : EntryLine) (cause : Cause) → IsLineFor run.config.clients line → (taken run line ≡ Err cause) ↔ CantTake run line cause
+cant_take : (run : Run) (line : EntryLine) (cause : Cause) → IsLineFor run.config.clients line
+    → (taken run line ≡ Err cause) ↔ CantTake run line cause
 unfolding taken acted
 cant_take run (said.Comes i (inputs.Write value)) cause fits = cant_write run i value cause fits.1.sized
 cant_take run (said.Comes i (inputs.Read register)) cause fits = cant_read run i register cause fits.1
@@ -290,7 +305,10 @@ refused_entry version run tokens cause given found is =
       spelled = e.spelled;
       why = elim (chosen (is_number_of (length run.entries) given.0) (takes version run given.1) (Err causes.Order) (Err cause) is) [
         | inl due ↦ inr ((bytes_eq-Decides given.0 count).0 due.0, (cant_take run given.1 cause fits).0 (there.0 due.1))
-        | inr other ↦ inl (let e = other.1 in cc, λ same. both_ways (bytes_eq given.0 count) other.0 ((bytes_eq-Decides given.0 count).1 same))
+        | inr other ↦ inl (
+          let e = other.1 in cc,
+          λ same. both_ways (bytes_eq given.0 count) other.0 ((bytes_eq-Decides given.0 count).1 same),
+        )
       ];
     }
 
@@ -370,7 +388,8 @@ item-fault version run tokens cause = (
               | inl full ↦ cond-true full_test (Err causes.Events) entry (le-leb _ _ full.1) ∙ ap Err (sym full.0)
               | inr room ↦
                   let refused : entry ≡ Err cause = elim room.1 [
-                    | inl fault ↦ ap (λ r. r >>= (λ given. numbered version run given.0 given.1)) ((entry-fault version run.config.clients tokens cause).1 fault)
+                    | inl fault ↦ ap (λ r. r >>= (λ given. numbered version run given.0 given.1))
+                        ((entry-fault version run.config.clients tokens cause).1 fault)
                     | inr spelled ↦ entry_refused version run tokens cause spelled
                   ] in
                   cond-false full_test (Err causes.Events) entry (lt-leb _ _ room.0) ∙ refused
@@ -391,12 +410,15 @@ text-fault (stages.Ended run) text cause = (λ found. cc, λ is. ap Err (sym is)
 -- A line.
 line-fault : (stage : Stage) (line : TextLine) (cause : Cause) → (stage_at stage line ≡ Err cause) ↔ IsLineFault stage line cause
 unfolding stage_at
-line-fault stage line cause = whole_line-fault line (text_at stage) cause (IsTextFault stage line.bytes cause) (text-fault stage line.bytes cause)
+line-fault stage line cause = whole_line-fault line (text_at stage) cause (IsTextFault stage line.bytes cause)
+    (text-fault stage line.bytes cause)
 
 -- Lines that are read, and what comes behind them.
-pub lines_from-behind : (front more : List TextLine) (stage last : Stage) (number : ℕ) → reached stage front ≡ Ok last → lines_from stage number (front ++ more) ≡ lines_from last (number + length front) more
+pub lines_from-behind : (front more : List TextLine) (stage last : Stage) (number : ℕ) → reached stage front ≡ Ok last
+    → lines_from stage number (front ++ more) ≡ lines_from last (number + length front) more
 unfolding lines_from reached
-lines_from-behind [] more stage last number found = ap (λ st. lines_from st number more) (ok_same stage last found) ∙ ap (λ q. lines_from last q more) (omega arith)
+lines_from-behind [] more stage last number found = ap (λ st. lines_from st number more) (ok_same stage last found)
+    ∙ ap (λ q. lines_from last q more) (omega arith)
 lines_from-behind (line ∷ front) more stage last number found =
     let next = bind_ok (stage_at stage line) (λ st. reached st front) last found in
     ap (and_then_lines number (λ st. lines_from st (number + 1) (front ++ more))) next.1
@@ -418,9 +440,14 @@ refusal_of x (Err refusal) = refusal
 refusal_same : (x y : Refusal) → (let left : Result Run Refusal = Err x in left ≡ Err y) → x ≡ y
 refusal_same x y same = ap (λ (r : Result Run Refusal). refusal_of x r) same
 
-ended-fault : (stage : Stage) (number : ℕ) (refusal : Refusal) → finished stage number ≡ Err refusal → (refusal.line ≡ number) × (refusal.cause ≡ causes.CutOff) × IsNotEnded stage
-ended-fault (stages.Head head) number refusal found = let same = refusal_same (record { line = number; cause = causes.CutOff }) refusal found in (sym (ap (λ r. r.line) same), sym (ap (λ r. r.cause) same), tt)
-ended-fault (stages.Entries version run) number refusal found = let same = refusal_same (record { line = number; cause = causes.CutOff }) refusal found in (sym (ap (λ r. r.line) same), sym (ap (λ r. r.cause) same), tt)
+ended-fault : (stage : Stage) (number : ℕ) (refusal : Refusal) → finished stage number ≡ Err refusal
+    → (refusal.line ≡ number) × (refusal.cause ≡ causes.CutOff) × IsNotEnded stage
+ended-fault (stages.Head head) number refusal found = let same =
+    refusal_same (record { line = number; cause = causes.CutOff }) refusal found in
+    (sym (ap (λ r. r.line) same), sym (ap (λ r. r.cause) same), tt)
+ended-fault (stages.Entries version run) number refusal found = let same =
+    refusal_same (record { line = number; cause = causes.CutOff }) refusal found in
+    (sym (ap (λ r. r.line) same), sym (ap (λ r. r.cause) same), tt)
 ended-fault (stages.Ended run) number refusal found = absurd (cc)
 
 not_ended : (stage : Stage) (number : ℕ) → IsNotEnded stage → finished stage number ≡ Err (record { line = number; cause = causes.CutOff })
@@ -428,15 +455,27 @@ not_ended (stages.Head head) number is = refl
 not_ended (stages.Entries version run) number is = refl
 not_ended (stages.Ended run) number is = absurd is
 
-refused_after : (number : ℕ) (lines : List TextLine) (r : Result Stage Cause) (refusal : Refusal) → and_then_lines number (λ next. lines_from next (number + 1) lines) r ≡ Err refusal → ((next : Stage) × (r ≡ Ok next) × (lines_from next (number + 1) lines ≡ Err refusal)) ⊎ ((refusal.line ≡ number) × (r ≡ Err refusal.cause))
+refused_after : (number : ℕ) (lines : List TextLine) (r : Result Stage Cause) (refusal : Refusal)
+    → and_then_lines number (λ next. lines_from next (number + 1) lines) r ≡ Err refusal
+    → ((next : Stage) × (r ≡ Ok next) × (lines_from next (number + 1) lines ≡ Err refusal))
+    ⊎ ((refusal.line ≡ number) × (r ≡ Err refusal.cause))
 refused_after number lines (Ok next) refusal found = inl (next, refl, found)
-refused_after number lines (Err cause) refusal found = let same = refusal_same (record { line = number; cause = cause }) refusal found in inr (sym (ap (λ r. r.line) same), ap (λ r. Err r.cause) same)
+refused_after number lines (Err cause) refusal found = let same = refusal_same (record { line = number; cause = cause }) refusal found in
+    inr (sym (ap (λ r. r.line) same), ap (λ r. Err r.cause) same)
 
-refused_lines : (lines : List TextLine) (stage : Stage) (number : ℕ) (refusal : Refusal) → lines_from stage number lines ≡ Err refusal → Found stage number lines refusal
+refused_lines : (lines : List TextLine) (stage : Stage) (number : ℕ) (refusal : Refusal) → lines_from stage number lines ≡ Err refusal
+    → Found stage number lines refusal
 unfolding lines_from reached
 refused_lines [] stage number refusal found =
     let ended = ended-fault stage number refusal found in
-    record { before = 0; line_is = omega (arith, ended.0); within = omega arith; last = stage; read_before = refl; why = (ended.1, ended.2) }
+    record {
+      before = 0;
+      line_is = omega (arith, ended.0);
+      within = omega arith;
+      last = stage;
+      read_before = refl;
+      why = (ended.1, ended.2);
+    }
 refused_lines (line ∷ lines) stage number refusal found =
     elim (refused_after number lines (stage_at stage line) refusal found) [
       | inl next ↦
@@ -449,13 +488,22 @@ refused_lines (line ∷ lines) stage number refusal found =
             read_before = ap (λ r. r >>= (λ st. reached st (take more.before lines))) next.1 ∙ more.read_before;
             why = more.why;
           }
-      | inr here ↦ record { before = 0; line_is = omega (arith, here.0); within = omega arith; last = stage; read_before = refl; why = (line-fault stage line refusal.cause).0 here.1 }
+      | inr here ↦ record {
+        before = 0;
+        line_is = omega (arith, here.0);
+        within = omega arith;
+        last = stage;
+        read_before = refl;
+        why = (line-fault stage line refusal.cause).0 here.1;
+      }
     ]
 
-pub refused_there : (lines : List TextLine) (stage : Stage) (number : ℕ) (cause : Cause) → IsRefusedThere stage lines cause → lines_from stage number lines ≡ Err (record { line = number; cause = cause })
+pub refused_there : (lines : List TextLine) (stage : Stage) (number : ℕ) (cause : Cause) → IsRefusedThere stage lines cause
+    → lines_from stage number lines ≡ Err (record { line = number; cause = cause })
 unfolding lines_from
 refused_there [] stage number cause why = not_ended stage number why.1 ∙ ap (λ c. Err (record { line = number; cause = c })) (sym why.0)
-refused_there (line ∷ lines) stage number cause why = ap (and_then_lines number (λ st. lines_from st (number + 1) lines)) ((line-fault stage line cause).1 why)
+refused_there (line ∷ lines) stage number cause why =
+    ap (and_then_lines number (λ st. lines_from st (number + 1) lines)) ((line-fault stage line cause).1 why)
 
 -- The refused line of an input, and no other.
 pub refusals_are : (input : List ℕ) (refusal : Refusal) → (read input ≡ Err refusal) ↔ IsRefused input refusal
@@ -463,7 +511,14 @@ unfolding read
 refusals_are input refusal = (
   λ found.
       let is = refused_lines (lines_of input) start 1 refusal found in
-      record { before = is.before; line_is = omega (arith, is.line_is); within = is.within; stage = is.last; read_before = is.read_before; why = is.why },
+      record {
+        before = is.before;
+        line_is = omega (arith, is.line_is);
+        within = is.within;
+        stage = is.last;
+        read_before = is.read_before;
+        why = is.why;
+      },
   λ is.
       let lines = lines_of input in
       let front = take is.before lines in
@@ -472,7 +527,8 @@ refusals_are input refusal = (
       let line : 1 + length front ≡ refusal.line = omega (arith, count, is.line_is) in
       ap (lines_from start 1) (sym (take-append-drop is.before lines))
       ∙ (lines_from-behind front behind start is.stage 1 is.read_before
-      ∙ (refused_there behind is.stage (1 + length front) refusal.cause is.why ∙ ap (λ q. Err (record { line = q; cause = refusal.cause })) line)),
+      ∙ (refused_there behind is.stage (1 + length front) refusal.cause is.why
+      ∙ ap (λ q. Err (record { line = q; cause = refusal.cause })) line)),
 )
 
 -- What reading answers, in these words.

@@ -71,7 +71,13 @@ input_printed : (version : ℕ) (config : Config) (i : ℕ) (st : Client) (input
 input_printed version config i st (inputs.Write value) most client may handed =
     let fits = small config.clients i most client in
     record {
-      spelled = (refl, (number_spelled 1 config.clients i client.from_one client.to_n fits, (refl, (value_spelled value may.value_in_range, tt))));
+      spelled = (
+        refl,
+        (
+          number_spelled 1 config.clients i client.from_one client.to_n fits,
+          (refl, (value_spelled value may.value_in_range, tt)),
+        ),
+      );
       joinable = (
         middle_word (word_text words.Begin) refl refl (lit≤ tt),
         (
@@ -231,7 +237,9 @@ head_short : (version : ℕ) (config : Config) → IsConfig config → AllByRecu
 head_short version config range =
     let key_size = length-encode_with lower_digits config.key in
     let key = two_short (codes "key") (encode_lower config.key) 256 (lit≤ tt) (omega (arith, key_size, range.key_sized.sized)) in
-    let behind : AllByRecursion FitsLine (named_number (codes "clients") config.clients ∷ joined (codes "key" ∷ encode_lower config.key ∷ []) ∷ named_number (codes "delta") config.delta ∷ named_number (codes "dummy") config.dummy ∷ []) = (
+    let behind : AllByRecursion FitsLine (named_number (codes "clients") config.clients
+    ∷ joined (codes "key" ∷ encode_lower config.key ∷ []) ∷ named_number (codes "delta") config.delta
+    ∷ named_number (codes "dummy") config.dummy ∷ []) = (
       named_short (codes "clients") config.clients (lit≤ tt) (omega (arith, range.clients_count.at_most_32)),
       (
         omega (arith, key),
@@ -240,8 +248,11 @@ head_short version config range =
           (named_short (codes "dummy") config.dummy (lit≤ tt) (omega (arith, range.dummy_span.below)), tt),
         ),
       ),
-    ) in
-    (title_short (version == 1), all_fit_append (wire_lines version config.wire) _ (wires_short (version == 1) config.wire range.wire_known.to_two) behind)
+    ) in (
+      title_short (version == 1),
+      all_fit_append (wire_lines version config.wire) _
+          (wires_short (version == 1) config.wire range.wire_known.to_two) behind,
+    )
 
 line_texts : (texts : List (List ℕ)) → AllByRecursion (IsWithout 10) texts → AllByRecursion FitsLine texts → AllByRecursion IsLineText texts
 line_texts [] none fit = tt

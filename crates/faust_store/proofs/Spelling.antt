@@ -22,14 +22,17 @@ use Rattle.faust_store.specs.Records.{SpellsLine}
 use Rattle.faust_store.specs.Words.{entry_word, entry_words, word_text}
 
 -- The word that a token names is spelled so.
-find_named : {W : Type 0} (text : W → List ℕ) (token : List ℕ) (ws : List W) (word : W) → find (λ w. bytes_eq (text w) token) ws ≡ Some word → token ≡ text word
+find_named : {W : Type 0} (text : W → List ℕ) (token : List ℕ) (ws : List W) (word : W)
+    → find (λ w. bytes_eq (text w) token) ws ≡ Some word → token ≡ text word
 find_named text token [] word found = absurd (cc)
 find_named text token (w ∷ ws) word found =
     elim (cases_Bool (bytes_eq (text w) token)) [
       | inl same ↦
-          let word_is : w ≡ word = let e = sym (cond-true (bytes_eq (text w) token) (Some w) (find (λ x. bytes_eq (text x) token) ws) same) ∙ found in cc in
+          let word_is : w ≡ word = let e =
+          sym (cond-true (bytes_eq (text w) token) (Some w) (find (λ x. bytes_eq (text x) token) ws) same) ∙ found in cc in
           sym ((bytes_eq-Decides (text w) token).0 same) ∙ ap text word_is
-      | inr other ↦ find_named text token ws word (sym (cond-false (bytes_eq (text w) token) (Some w) (find (λ x. bytes_eq (text x) token) ws) other) ∙ found)
+      | inr other ↦ find_named text token ws word
+          (sym (cond-false (bytes_eq (text w) token) (Some w) (find (λ x. bytes_eq (text x) token) ws) other) ∙ found)
     ]
 
 entry_word-named : (token : List ℕ) (word : EntryWord) → entry_word token ≡ Some word → token ≡ word_text word
@@ -74,7 +77,8 @@ pub record FirstToken (field : Field) (tokens : List (List ℕ)) (x : Given fiel
   pub tokens_are : tokens ≡ token ∷ x.1
   pub spelled : SpellsField field x.0 token
 
-pub next_only : (field : Field) (tokens : List (List ℕ)) (x : Given field × List (List ℕ)) → next_field field tokens ≡ Ok x → FirstToken field tokens x
+pub next_only : (field : Field) (tokens : List (List ℕ)) (x : Given field × List (List ℕ)) → next_field field tokens ≡ Ok x
+    → FirstToken field tokens x
 next_only field [] x found = absurd (cc)
 next_only field (token ∷ tokens) x found =
     let given = bind_ok (field_at field token) (λ g. Ok (g, tokens)) x found in
@@ -100,7 +104,8 @@ alone_by n tokens = fields_at (client_form n) tokens >>= λ given. Ok (lines.Com
 abbrev named_by : ℕ → List (List ℕ) → Result EntryLine Cause
 named_by n tokens = fields_at (bytes_form n) tokens >>= λ given. Ok (lines.Arrives given.0 given.1.0)
 
-pub line_found : (version n : ℕ) (line : EntryLine) (tokens : List (List ℕ)) → SpellsLine version n line tokens → line_at version n tokens ≡ Ok line
+pub line_found : (version n : ℕ) (line : EntryLine) (tokens : List (List ℕ)) → SpellsLine version n line tokens
+    → line_at version n tokens ≡ Ok line
 unfolding line_by begun_by
 line_found version n (lines.Comes i (inputs.Write v)) [] spelled = absurd spelled
 line_found version n (lines.Comes i (inputs.Write v)) (name ∷ []) spelled = absurd spelled.1
@@ -165,7 +170,8 @@ arrival_only : (version n : ℕ) (name : List ℕ) (tokens : List (List ℕ)) (l
     → arrival_by version n tokens ≡ Ok line → SpellsLine version n line (name ∷ tokens)
 arrival_only version n name tokens line named found =
     elim (cases_Bool (version == 1)) [
-      | inl one ↦ made (client_form n) (λ given. lines.Comes given.0 inputs.Arrive) tokens line (λ y. SpellsLine version n y (name ∷ tokens))
+      | inl one ↦ made (client_form n) (λ given. lines.Comes given.0 inputs.Arrive) tokens line
+          (λ y. SpellsLine version n y (name ∷ tokens))
           (λ given spelled. (one, (named, spelled))) (sym (cond-true (version == 1) (alone_by n tokens) (named_by n tokens) one) ∙ found)
       | inr two ↦ made (bytes_form n) (λ given. lines.Arrives given.0 given.1.0) tokens line (λ y. SpellsLine version n y (name ∷ tokens))
           (λ given spelled. (two, (named, spelled))) (sym (cond-false (version == 1) (alone_by n tokens) (named_by n tokens) two) ∙ found)
@@ -189,9 +195,11 @@ worded_only version n words.Tick name tokens line named found =
 named_only : (version n : ℕ) (word : Option EntryWord) (name : List ℕ) (tokens : List (List ℕ)) (line : EntryLine) → entry_word name ≡ word
     → line_named version n word tokens ≡ Ok line → SpellsLine version n line (name ∷ tokens)
 named_only version n None name tokens line is found = absurd (cc)
-named_only version n (Some word) name tokens line is found = worded_only version n word name tokens line (entry_word-named name word is) found
+named_only version n (Some word) name tokens line is found =
+    worded_only version n word name tokens line (entry_word-named name word is) found
 
-pub line_only : (version n : ℕ) (line : EntryLine) (tokens : List (List ℕ)) → line_at version n tokens ≡ Ok line → SpellsLine version n line tokens
+pub line_only : (version n : ℕ) (line : EntryLine) (tokens : List (List ℕ)) → line_at version n tokens ≡ Ok line
+    → SpellsLine version n line tokens
 unfolding line_at
 line_only version n line [] found = absurd (cc)
 line_only version n line (name ∷ tokens) found = named_only version n (entry_word name) name tokens line refl found

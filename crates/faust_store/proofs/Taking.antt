@@ -190,7 +190,8 @@ last_item : (xs : List Entry) (x : Entry) → slice_get (xs ++ x ∷ []) (length
 last_item [] x = refl
 last_item (y ∷ xs) x = last_item xs x
 
-last_arrived : (run next : Run) (i : ℕ) → pushed (push_of run i given.Arrive) ≡ Ok next → last_arrival next.entries ≡ next_message i run.entries
+last_arrived : (run next : Run) (i : ℕ) → pushed (push_of run i given.Arrive) ≡ Ok next
+    → last_arrival next.entries ≡ next_message i run.entries
 last_arrived run next i is =
     let a = arrival_parts run next i is in
     let entry : Entry = arrival_at i (length run.entries) a.message in

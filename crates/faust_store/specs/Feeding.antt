@@ -29,7 +29,8 @@ pub record IsFeed (feed : Feed) : Type 0 where
 
 -- The line that begins at a place of some bytes and is ended in them; none where no line feed stands behind the place.
 pub record IsEndedAt (bytes : List ℕ) (from : ℕ) (line : Line) : Type 0 where
-  pub lines_from : (later : List ℕ) → lines_of (drop from bytes ++ later) ≡ line_in bytes line ∷ lines_of (drop (line.span.end + 1) bytes ++ later)
+  pub lines_from : (later : List ℕ) → lines_of (drop from bytes ++ later)
+      ≡ line_in bytes line ∷ lines_of (drop (line.span.end + 1) bytes ++ later)
   pub starts : line.span.start ≡ from
   pub not_before : from ≤ line.span.end
   pub within : line.span.end + 1 ≤ length bytes
@@ -43,7 +44,8 @@ pub record HasTaken (start : Stage) (first : ℕ) (bytes : List ℕ) (taken : Ta
   pub in_range : IsStage taken.stage
   pub counted : taken.number ≤ first + taken.from
   pub within : taken.from ≤ length bytes
-  pub so_far : (later : List ℕ) → lines_from start first (lines_of (bytes ++ later)) ≡ lines_from taken.stage taken.number (lines_of (drop taken.from bytes ++ later))
+  pub so_far : (later : List ℕ) → lines_from start first (lines_of (bytes ++ later))
+      ≡ lines_from taken.stage taken.number (lines_of (drop taken.from bytes ++ later))
   pub no_more : IsWithout 10 (drop taken.from bytes)
 
 abbrev pub TakesLines : Result Taken StoreError → Stage → ℕ → List ℕ → Type 0
@@ -54,7 +56,8 @@ TakesLines (Err e) start first bytes = (later : List ℕ) → Reads (Err e) (lin
 abbrev pub KeepsRest : Result Feed StoreError → Taken → List ℕ → ℕ → Type 0
 KeepsRest (Ok next) taken bytes left =
     next ≡ record { stage = taken.stage; number = taken.number; rest = drop taken.from bytes; left = left }
-KeepsRest (Err (BadRecord line cause)) taken bytes left = (line ≡ taken.number) × (cause ≡ causes.TooLong) × (40000 < length (drop taken.from bytes))
+KeepsRest (Err (BadRecord line cause)) taken bytes left =
+    (line ≡ taken.number) × (cause ≡ causes.TooLong) × (40000 < length (drop taken.from bytes))
 KeepsRest (Err OutOfMemory) taken bytes left = Unit {0}
 
 -- Both together: the bytes are read as far as they are whole lines, and the rest is kept.

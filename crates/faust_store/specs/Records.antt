@@ -53,8 +53,10 @@ SpellsLine version n (said.Comes i (pushes.Read j)) tokens = SpellsFields (read_
 SpellsLine version n (said.Comes i (pushes.Reply b)) tokens = SpellsFields (worded words.Reply (bytes_form n)) (tt, (i, (b, tt))) tokens
 SpellsLine version n (said.Comes i (pushes.Peer b)) tokens = SpellsFields (worded words.Peer (bytes_form n)) (tt, (i, (b, tt))) tokens
 SpellsLine version n (said.Comes i (pushes.Tick m)) tokens = SpellsFields (worded words.Tick (tick_form n)) (tt, (i, (m, tt))) tokens
-SpellsLine version n (said.Comes i pushes.Arrive) tokens = ((version == 1) ≡ true) × SpellsFields (worded words.Arrive (client_form n)) (tt, (i, tt)) tokens
-SpellsLine version n (said.Arrives i b) tokens = ((version == 1) ≡ false) × SpellsFields (worded words.Arrive (bytes_form n)) (tt, (i, (b, tt))) tokens
+SpellsLine version n (said.Comes i pushes.Arrive) tokens =
+    ((version == 1) ≡ true) × SpellsFields (worded words.Arrive (client_form n)) (tt, (i, tt)) tokens
+SpellsLine version n (said.Arrives i b) tokens =
+    ((version == 1) ≡ false) × SpellsFields (worded words.Arrive (bytes_form n)) (tt, (i, (b, tt))) tokens
 
 -- The tokens spell an entry: its number stands first.
 abbrev pub SpellsEntry : ℕ → ℕ → Entry → List (List ℕ) → Type 0
@@ -66,7 +68,8 @@ abbrev pub AreEntryLines : ℕ → ℕ → List Entry → List (List ℕ) → Ty
 AreEntryLines version n [] [] = Unit {0}
 AreEntryLines version n [] (text ∷ texts) = ⊥
 AreEntryLines version n (entry ∷ entries) [] = ⊥
-AreEntryLines version n (entry ∷ entries) (text ∷ texts) = SpellsEntry version n entry (tokens_of text) × AreEntryLines version n entries texts
+AreEntryLines version n (entry ∷ entries) (text ∷ texts) =
+    SpellsEntry version n entry (tokens_of text) × AreEntryLines version n entries texts
 
 abbrev pub end_form : List Field
 end_form = word (codes "end") ∷ any_number ∷ []

@@ -99,7 +99,8 @@ pub record IsRefusedEntry (version : ℕ) (run : Run) (tokens : List (List ℕ))
   pub tokens_are : tokens ≡ token ∷ behind
   pub is_number : SpellsField any_number token token
   pub spelled : SpellsLine version run.config.clients line behind
-  pub why : ((cause ≡ causes.Order) × (token ≢ decimal (length run.entries))) ⊎ ((token ≡ decimal (length run.entries)) × CantTake run line cause)
+  pub why : ((cause ≡ causes.Order) × (token ≢ decimal (length run.entries)))
+      ⊎ ((token ≡ decimal (length run.entries)) × CantTake run line cause)
 
 -- An end line of another number; and a line that is no end line.
 abbrev pub IsWrongEnd : Run → List (List ℕ) → Type 0
@@ -124,7 +125,8 @@ IsTextFault (stages.Ended run) text cause = cause ≡ causes.AfterEnd
 -- Why a line is refused: it is too long; or else cut off; or else its text is refused.
 abbrev pub IsLineFault : Stage → TextLine → Cause → Type 0
 IsLineFault stage line cause = ((cause ≡ causes.TooLong) × (40000 < length line.bytes))
-    ⊎ ((length line.bytes ≤ 40000) × (((cause ≡ causes.CutOff) × (line.ended ≡ false)) ⊎ ((line.ended ≡ true) × IsTextFault stage line.bytes cause)))
+    ⊎ ((length line.bytes ≤ 40000)
+    × (((cause ≡ causes.CutOff) × (line.ended ≡ false)) ⊎ ((line.ended ≡ true) × IsTextFault stage line.bytes cause)))
 
 -- The input ends before the record does, or the next line is refused.
 abbrev pub IsNotEnded : Stage → Type 0

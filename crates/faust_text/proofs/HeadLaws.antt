@@ -40,7 +40,8 @@ pub head_step : (form : HeadForm) (head : Head) (tokens : List (List ℕ)) (give
     → SpellsFields (due_form form head) given tokens
     → head_at form head tokens ≡ Ok (with_line form head given)
 head_step form head tokens given spelled =
-    head_by_line form head tokens ∙ ap (λ r. r >>= (λ g. Ok (with_line form head g))) ((fields_spell (due_form form head) tokens given).1 spelled)
+    head_by_line form head tokens ∙ ap (λ r. r >>= (λ g. Ok (with_line form head g)))
+    ((fields_spell (due_form form head) tokens given).1 spelled)
 
 pub record ReadLine (form : HeadForm) (head : Head) (tokens : List (List ℕ)) (next : HeadStep) : Type 0 where
   pub given : AllGiven (due_form form head)
@@ -51,7 +52,8 @@ pub head_step-only : (form : HeadForm) (head : Head) (tokens : List (List ℕ)) 
     → head_at form head tokens ≡ Ok next
     → ReadLine form head tokens next
 head_step-only form head tokens next found =
-    let step = bind_ok (fields_at (due_form form head) tokens) (λ g. Ok (with_line form head g)) next (sym (head_by_line form head tokens) ∙ found) in
+    let step = bind_ok (fields_at (due_form form head) tokens) (λ g. Ok (with_line form head g)) next
+    (sym (head_by_line form head tokens) ∙ found) in
     record {
       given = step.0;
       spelled = (fields_spell (due_form form head) tokens step.0).0 step.1;
@@ -68,8 +70,10 @@ given_err (Err e) f cause found = cc
 pub head_faults : (form : HeadForm) (head : Head) (tokens : List (List ℕ)) (cause : Cause)
     → (head_at form head tokens ≡ Err cause) ↔ IsFirstFault (due_form form head) tokens cause
 head_faults form head tokens cause = (
-  λ found. (fields_fault (due_form form head) tokens cause).0 (given_err (fields_at (due_form form head) tokens) (with_line form head) cause (sym (head_by_line form head tokens) ∙ found)),
-  λ is. head_by_line form head tokens ∙ ap (λ r. r >>= (λ g. Ok (with_line form head g))) ((fields_fault (due_form form head) tokens cause).1 is),
+  λ found. (fields_fault (due_form form head) tokens cause).0
+      (given_err (fields_at (due_form form head) tokens) (with_line form head) cause (sym (head_by_line form head tokens) ∙ found)),
+  λ is. head_by_line form head tokens ∙ ap (λ r. r >>= (λ g. Ok (with_line form head g)))
+      ((fields_fault (due_form form head) tokens cause).1 is),
 )
 
 -- Lines that make a head whole, the first of them taken apart.
@@ -163,7 +167,8 @@ second_of_two true zero token is = refl
 second_of_two true (suc place) token is = absurd is.1
 second_of_two false place token is = absurd is
 
-title_place : (form : HeadForm) (place : ℕ) (tokens : List (List ℕ)) → SpellsFields (title_form form) (tt, (suc place, tt)) tokens → place ≡ 0
+title_place : (form : HeadForm) (place : ℕ) (tokens : List (List ℕ))
+    → SpellsFields (title_form form) (tt, (suc place, tt)) tokens → place ≡ 0
 title_place form place [] is = absurd is
 title_place form place (name ∷ []) is = absurd is.1
 title_place form place (name ∷ token ∷ tokens) is = second_of_two (leb 2 form.formats) place token is.1.0.1
@@ -229,17 +234,25 @@ line_found : (form : HeadForm) (head : Head) (line : List ℕ) (lines : List (Li
 line_found form head line lines given spelled =
     ap (λ r. r >>= (λ next. head_read form next lines)) (head_step form head (tokens_of line) given spelled)
 
-abbrev four_of : {form : HeadForm} {format : ℕ} {config : Config} {lines : List (List ℕ)} → AreHeadLines form format config lines → List (List ℕ)
+abbrev four_of : {form : HeadForm} {format : ℕ} {config : Config} {lines : List (List ℕ)} → AreHeadLines form format config lines
+    → List (List ℕ)
 four_of are = are.clients ∷ are.key_line ∷ are.delta ∷ are.dummy ∷ []
 
-four_found : (form : HeadForm) (formats : Formats) (format : ℕ) (config : Config) (lines : List (List ℕ)) (are : AreHeadLines form format config lines)
+four_found : (form : HeadForm) (formats : Formats) (format : ℕ) (config : Config) (lines : List (List ℕ))
+    (are : AreHeadLines form format config lines)
     → formats.text ≡ format → formats.wire ≡ config.wire
     → head_read form (Next (heads.Clients formats)) (four_of are) ≡ Ok (Whole format config)
 four_found form formats format config lines are format_is wire_is =
     let n = config.clients in
     let key = config.key in
     let delta = config.delta in
-    let with_formats : ℕ → ℕ → HeadStep = λ f w. Whole f (record { clients = n; key = key; delta = delta; dummy = config.dummy; wire = w }) in
+    let with_formats : ℕ → ℕ → HeadStep = λ f w. Whole f (record {
+      clients = n;
+      key = key;
+      delta = delta;
+      dummy = config.dummy;
+      wire = w;
+    }) in
     line_found form (heads.Clients formats) are.clients (are.key_line ∷ are.delta ∷ are.dummy ∷ []) (tt, (n, tt)) are.clients_spelled
     ∙ (line_found form (heads.Key formats n) are.key_line (are.delta ∷ are.dummy ∷ []) (tt, (key, tt)) are.key_spelled
     ∙ (line_found form (heads.Delta formats n key) are.delta (are.dummy ∷ []) (tt, (delta, tt)) are.delta_spelled

@@ -91,7 +91,8 @@ named_number_spelled name low high x plain from to fits =
 
 named_number_line : (name : List ℕ) (x : ℕ) → list_all (λ b. not (eqb b 10)) name ≡ true → x < 2 ^ 64 → IsWithout 10 (named_number name x)
 named_number_line name x plain fits =
-    without_joined 10 name (decimal x) (without_by_test 10 name plain) refl (digits_without 10 (decimal x) (omega arith) (is_number-decimal x fits))
+    without_joined 10 name (decimal x) (without_by_test 10 name plain) refl
+    (digits_without 10 (decimal x) (omega arith) (is_number-decimal x fits))
 
 -- The key.
 key_line_spelled : (bytes : List ℕ) → AreBytes bytes → 1 ≤ length bytes → length bytes ≤ 128
@@ -122,7 +123,8 @@ title_tokens : (form : HeadForm) (format place : ℕ) → plain_test (format_tex
     → IsWordAt (format_words form.formats) place (format_text format)
     → SpellsFields (title_form form) (tt, (place, tt)) (tokens_of (title_line form.title format))
 title_tokens form format place plain word_at =
-    let read = joined_are_read (title_word form.title ∷ format_text format ∷ []) (plain_by_test (title_word form.title) (title_word_plain form.title), inl (plain_by_test (format_text format) plain)) in
+    let read = joined_are_read (title_word form.title ∷ format_text format ∷ [])
+    (plain_by_test (title_word form.title) (title_word_plain form.title), inl (plain_by_test (format_text format) plain)) in
     subst (λ (ts : List (List ℕ)). SpellsFields (title_form form) (tt, (place, tt)) ts) (sym read) (refl, (word_at, tt))
 
 -- The lines of the wire.
@@ -135,7 +137,8 @@ record Formatted (form : HeadForm) (format wire : ℕ) : Type 0 where
 formatted_one : (form : HeadForm) → Formatted form 1 1
 formatted_one form = record {
   title_spelled = title_tokens form 1 0 refl refl;
-  title_ended = without_joined 10 (title_word form.title) (codes "1") (without_by_test 10 (title_word form.title) (title_word_line form.title)) refl (refl, tt);
+  title_ended = without_joined 10 (title_word form.title) (codes "1")
+      (without_by_test 10 (title_word form.title) (title_word_line form.title)) refl (refl, tt);
   wire_spelled = (refl, refl);
   wires_ended = tt;
 }
@@ -143,15 +146,18 @@ formatted_one form = record {
 formatted_two : (form : HeadForm) (wire : ℕ) → 2 ≤ form.formats → 1 ≤ wire → wire ≤ 2 → Formatted form 2 wire
 formatted_two form wire both from to = record {
   title_spelled = title_tokens form 2 1 refl (second_word (leb 2 form.formats) (le-leb 2 form.formats both));
-  title_ended = without_joined 10 (title_word form.title) (codes "2") (without_by_test 10 (title_word form.title) (title_word_line form.title)) refl (refl, tt);
+  title_ended = without_joined 10 (title_word form.title) (codes "2")
+      (without_by_test 10 (title_word form.title) (title_word_line form.title)) refl (refl, tt);
   wire_spelled = (refl, named_number_spelled (codes "wire") 1 2 wire refl from to (omega arith));
   wires_ended = (named_number_line (codes "wire") wire refl (omega arith), tt);
 }
 
 formatted : (form : HeadForm) (format : ℕ) (config : Config) → CanBeHead form format config → Formatted form format config.wire
 formatted form format config can = elim can.format_known [
-  | inl one ↦ subst (λ (f : ℕ). Formatted form f config.wire) (sym one.0) (subst (λ (w : ℕ). Formatted form 1 w) (sym one.1) (formatted_one form))
-  | inr two ↦ subst (λ (f : ℕ). Formatted form f config.wire) (sym two.0) (formatted_two form config.wire two.1 can.in_range.wire_known.from_one can.in_range.wire_known.to_two)
+  | inl one ↦ subst (λ (f : ℕ). Formatted form f config.wire) (sym one.0)
+      (subst (λ (w : ℕ). Formatted form 1 w) (sym one.1) (formatted_one form))
+  | inr two ↦ subst (λ (f : ℕ). Formatted form f config.wire) (sym two.0)
+      (formatted_two form config.wire two.1 can.in_range.wire_known.from_one can.in_range.wire_known.to_two)
 ]
 
 all_append : (P : List ℕ → Type 0) (xs ys : List (List ℕ)) → AllByRecursion P xs → AllByRecursion P ys → AllByRecursion P (xs ++ ys)
@@ -174,10 +180,13 @@ printed_heads_are form format config can =
       lines_are = refl;
       title_spelled = f.title_spelled;
       wire_spelled = f.wire_spelled;
-      clients_spelled = named_number_spelled (codes "clients") 2 form.clients config.clients refl range.clients_count.at_least_two can.few_clients (omega (arith, range.clients_count.at_most_32));
+      clients_spelled = named_number_spelled (codes "clients") 2 form.clients config.clients refl range.clients_count.at_least_two
+          can.few_clients (omega (arith, range.clients_count.at_most_32));
       key_spelled = key_line_spelled config.key can.key_bytes range.key_sized.not_empty range.key_sized.sized;
-      delta_spelled = named_number_spelled (codes "delta") 1 (2 ^ 40 - 1) config.delta refl range.delta_span.from_one (omega (arith, range.delta_span.below)) (omega (arith, range.delta_span.below));
-      dummy_spelled = named_number_spelled (codes "dummy") 1 (2 ^ 40 - 1) config.dummy refl range.dummy_span.from_one (omega (arith, range.dummy_span.below)) (omega (arith, range.dummy_span.below));
+      delta_spelled = named_number_spelled (codes "delta") 1 (2 ^ 40 - 1) config.delta refl range.delta_span.from_one
+          (omega (arith, range.delta_span.below)) (omega (arith, range.delta_span.below));
+      dummy_spelled = named_number_spelled (codes "dummy") 1 (2 ^ 40 - 1) config.dummy refl range.dummy_span.from_one
+          (omega (arith, range.dummy_span.below)) (omega (arith, range.dummy_span.below));
     }
 
 -- None of its lines has a line feed.
@@ -186,8 +195,11 @@ printed_heads_are_lines : (form : HeadForm) (format : ℕ) (config : Config) →
 printed_heads_are_lines form format config can =
     let f = formatted form format config can in
     let range = can.in_range in
-    let key_line = without_joined 10 (codes "key") (encode_lower config.key) (without_by_test 10 (codes "key") refl) refl (without_hex 10 (encode_lower config.key) refl (encode_lower-hex config.key can.key_bytes)) in
-    let behind : AllByRecursion (IsWithout 10) (named_number (codes "clients") config.clients ∷ joined (codes "key" ∷ encode_lower config.key ∷ []) ∷ named_number (codes "delta") config.delta ∷ named_number (codes "dummy") config.dummy ∷ []) = (
+    let key_line = without_joined 10 (codes "key") (encode_lower config.key) (without_by_test 10 (codes "key") refl) refl
+    (without_hex 10 (encode_lower config.key) refl (encode_lower-hex config.key can.key_bytes)) in
+    let behind : AllByRecursion (IsWithout 10) (named_number (codes "clients") config.clients
+    ∷ joined (codes "key" ∷ encode_lower config.key ∷ []) ∷ named_number (codes "delta") config.delta
+    ∷ named_number (codes "dummy") config.dummy ∷ []) = (
       named_number_line (codes "clients") config.clients refl (omega (arith, range.clients_count.at_most_32)),
       (
         key_line,
@@ -201,4 +213,5 @@ printed_heads_are_lines form format config can =
 
 pub printed_heads_lines : (form : HeadForm) (format : ℕ) (config : Config) → CanBeHead form format config
     → lines_of (head_text form.title format config) ≡ ended_lines (head_lines form.title format config)
-printed_heads_lines form format config can = lines_of_ended_text (head_lines form.title format config) (printed_heads_are_lines form format config can)
+printed_heads_lines form format config can =
+    lines_of_ended_text (head_lines form.title format config) (printed_heads_are_lines form format config can)

@@ -14,7 +14,8 @@ use Rattle.std.specs.List.{list_all}
 use Rattle.faust_text.specs.Numbers.{is_number, worth, number_of}
 
 pub number_of-fits : (token : List ℕ) → is_number token ≡ true → worth token < 2 ^ 64 → number_of token ≡ Some (worth token)
-number_of-fits token is fits = ap (λ t. cond (t && ltb (worth token) (2 ^ 64)) (Some (worth token)) None) is ∙ cond-true (ltb (worth token) (2 ^ 64)) _ _ (lt-ltb _ _ fits)
+number_of-fits token is fits = ap (λ t. cond (t && ltb (worth token) (2 ^ 64)) (Some (worth token)) None) is
+    ∙ cond-true (ltb (worth token) (2 ^ 64)) _ _ (lt-ltb _ _ fits)
 
 pub number_of-no : (token : List ℕ) → is_number token ≡ false → number_of token ≡ None
 number_of-no token is = ap (λ t. cond (t && ltb (worth token) (2 ^ 64)) (Some (worth token)) None) is
@@ -22,7 +23,8 @@ number_of-no token is = ap (λ t. cond (t && ltb (worth token) (2 ^ 64)) (Some (
 pub number_of-beyond : (token : List ℕ) (i : ℕ) → is_number token ≡ true → 2 ^ 64 ≤ worth (take i token) → number_of token ≡ None
 number_of-beyond token i is beyond =
     ap (λ t. cond (t && ltb (worth token) (2 ^ 64)) (Some (worth token)) None) is
-    ∙ cond-false (ltb (worth token) (2 ^ 64)) (Some (worth token)) None (le-ltb _ _ (omega (arith, beyond, digits_value-take-le 10 token i (lit≤ tt))))
+    ∙ cond-false (ltb (worth token) (2 ^ 64)) (Some (worth token)) None
+    (le-ltb _ _ (omega (arith, beyond, digits_value-take-le 10 token i (lit≤ tt))))
 
 -- A number has a digit at each place.
 pub digits_at : (token : List ℕ) (i : ℕ) → is_number token ≡ true → i < length token → (48 ≤ get_or token i 0) × (get_or token i 0 ≤ 57)
@@ -30,28 +32,36 @@ digits_at [] i is below = absurd (omega arith)
 digits_at (d ∷ ds) i is below =
     elim (cases_Bool (eqb d 48)) [
       | inl nought ↦
-          let one : eqb (suc (length ds)) 1 ≡ true = sym (cond-true (eqb d 48) (eqb (suc (length ds)) 1) (list_all is_ascii_digit (d ∷ ds)) nought) ∙ is in
+          let one : eqb (suc (length ds)) 1 ≡ true =
+          sym (cond-true (eqb d 48) (eqb (suc (length ds)) 1) (list_all is_ascii_digit (d ∷ ds)) nought) ∙ is in
           let first : i ≡ 0 = grind (arith, nat_tests) in
           let at : get_or (d ∷ ds) i 0 ≡ d = ap (λ k. get_or (d ∷ ds) k 0) first in
           let value : d ≡ 48 = eqb-true d 48 nought in
           (omega arith, omega arith)
       | inr other ↦
-          let all : list_all is_ascii_digit (d ∷ ds) ≡ true = sym (cond-false (eqb d 48) (eqb (suc (length ds)) 1) (list_all is_ascii_digit (d ∷ ds)) other) ∙ is in
+          let all : list_all is_ascii_digit (d ∷ ds) ≡ true =
+          sym (cond-false (eqb d 48) (eqb (suc (length ds)) 1) (list_all is_ascii_digit (d ∷ ds)) other) ∙ is in
           let here : is_ascii_digit (get_or (d ∷ ds) i 0) ≡ true =
-          elim (cases_Bool (is_ascii_digit (get_or (d ∷ ds) i 0))) [ inl digit ↦ digit | inr other ↦ absurd (both_ways _ (list_all_at is_ascii_digit (d ∷ ds) i 0 below other) all) ] in
+          elim (cases_Bool (is_ascii_digit (get_or (d ∷ ds) i 0))) [
+            | inl digit ↦ digit
+            | inr other ↦
+                absurd (both_ways _ (list_all_at is_ascii_digit (d ∷ ds) i 0 below other) all)
+          ] in
           grind (arith, nat_tests)
     ]
 
 digit_value-digit : (c : ℕ) → 48 ≤ c → c ≤ 57 → digit_value c ≡ c - 48
 digit_value-digit c low high = grind (arith, nat_tests)
 
-pub worth-more : (token : List ℕ) (i : ℕ) → is_number token ≡ true → i < length token → worth (take (i + 1) token) ≡ worth (take i token) * 10 + (get_or token i 0 - 48)
+pub worth-more : (token : List ℕ) (i : ℕ) → is_number token ≡ true → i < length token
+    → worth (take (i + 1) token) ≡ worth (take i token) * 10 + (get_or token i 0 - 48)
 worth-more token i is below =
     let d = digits_at token i is below in
     digits_value_more 10 token i below ∙ ap (λ n. worth (take i token) * 10 + n) (digit_value-digit (get_or token i 0) d.0 d.1)
 
 -- The last digit of a number stands before those that were put already.
-pub digit_put : (digits : List ℕ) (at n x : ℕ) → 1 ≤ at → at ≤ length digits → 10 ≤ n → n < 2 ^ 64 → decimal n ++ drop at digits ≡ decimal x → decimal (n / 10) ++ drop (at - 1) (set digits (at - 1) (48 + n % 10)) ≡ decimal x
+pub digit_put : (digits : List ℕ) (at n x : ℕ) → 1 ≤ at → at ≤ length digits → 10 ≤ n → n < 2 ^ 64
+    → decimal n ++ drop at digits ≡ decimal x → decimal (n / 10) ++ drop (at - 1) (set digits (at - 1) (48 + n % 10)) ≡ decimal x
 digit_put digits at n x some within more small so_far =
     let same : at - 1 + 1 ≡ at = omega arith in
     let below : at - 1 < length digits = omega arith in
@@ -61,7 +71,8 @@ digit_put digits at n x some within more small so_far =
     ∙ (sym (append_assoc (decimal (n / 10)) ((48 + n % 10) ∷ []) (drop at digits))
     ∙ (ap (λ ds. ds ++ drop at digits) (sym (decimal_step n more small)) ∙ so_far))
 
-pub first_digit_put : (digits : List ℕ) (at n x : ℕ) → 1 ≤ at → at ≤ length digits → n < 10 → decimal n ++ drop at digits ≡ decimal x → drop (at - 1) (set digits (at - 1) (48 + n)) ≡ decimal x
+pub first_digit_put : (digits : List ℕ) (at n x : ℕ) → 1 ≤ at → at ≤ length digits → n < 10 → decimal n ++ drop at digits ≡ decimal x
+    → drop (at - 1) (set digits (at - 1) (48 + n)) ≡ decimal x
 first_digit_put digits at n x some within one so_far =
     let same : at - 1 + 1 ≡ at = omega arith in
     let below : at - 1 < length digits = omega arith in
@@ -117,10 +128,12 @@ numbers_are token x = (
   λ found. elim (cases_Bool (is_number token && ltb (worth token) (2 ^ 64))) [
     | inl fits ↦
         let parts = and_parts _ _ fits in
-        let same : worth token ≡ x = let e = sym (cond-true (is_number token && ltb (worth token) (2 ^ 64)) (Some (worth token)) None fits) ∙ found in cc in
+        let same : worth token ≡ x = let e =
+        sym (cond-true (is_number token && ltb (worth token) (2 ^ 64)) (Some (worth token)) None fits) ∙ found in cc in
         let small = ltb-true _ _ parts.1 in
         (omega arith, decimal-worth token parts.0 small ∙ ap decimal same)
-    | inr not_so ↦ absurd (let e = sym (cond-false (is_number token && ltb (worth token) (2 ^ 64)) (Some (worth token)) None not_so) ∙ found in cc)
+    | inr not_so ↦ absurd (let e = sym (cond-false (is_number token && ltb (worth token) (2 ^ 64)) (Some (worth token)) None not_so)
+        ∙ found in cc)
   ],
   λ is. ap number_of is.1 ∙ number_of-decimal x is.0,
 )

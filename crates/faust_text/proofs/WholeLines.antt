@@ -13,13 +13,16 @@ ended_line text = record { bytes = text; ended = true }
 
 pub whole_line-only : (line : TextLine) (text : List ℕ) → whole_line line ≡ Ok text → (line ≡ ended_line text) × (length text ≤ 40000)
 whole_line-only line text found =
-    elim (chosen (ltb 40000 (length line.bytes)) (Err causes.TooLong) (cond line.ended (Ok line.bytes) (Err causes.CutOff)) (Ok text) found) [
+    elim (chosen (ltb 40000 (length line.bytes)) (Err causes.TooLong) (cond line.ended (Ok line.bytes) (Err causes.CutOff))
+    (Ok text) found) [
       | inl long ↦ absurd (let e = long.1 in cc)
       | inr fits ↦ elim (chosen line.ended (Ok line.bytes) (Err causes.CutOff) (Ok text) fits.1) [
         | inl ended ↦
             let same : line.bytes ≡ text = ok_same line.bytes text ended.1 in
-            let few : length line.bytes ≤ 40000 = ltb-false _ _ fits.0 in
-            (ap (λ t. record { bytes = line.bytes; ended = t }) ended.0 ∙ ap ended_line same, subst (λ (bs : List ℕ). length bs ≤ 40000) same few)
+            let few : length line.bytes ≤ 40000 = ltb-false _ _ fits.0 in (
+              ap (λ t. record { bytes = line.bytes; ended = t }) ended.0 ∙ ap ended_line same,
+              subst (λ (bs : List ℕ). length bs ≤ 40000) same few,
+            )
         | inr open_end ↦ absurd (let e = open_end.1 in cc)
       ]
     ]
@@ -39,24 +42,36 @@ pub whole_line-fault : {A : Type 0} (line : TextLine) (read : List ℕ → Resul
     ⊎ ((length line.bytes ≤ 40000) × (((cause ≡ causes.CutOff) × (line.ended ≡ false)) ⊎ ((line.ended ≡ true) × IsFault))))
 whole_line-fault line read cause IsFault law = (
   λ found. elim (cases_Bool (ltb 40000 (length line.bytes))) [
-    | inl long ↦ inl (let e = sym (ap (λ t. cond t (Err causes.TooLong) (cond line.ended (Ok line.bytes) (Err causes.CutOff)) >>= read) long) ∙ found in cc, ltb-true _ _ long)
+    | inl long ↦
+        inl (
+          let e = sym (ap (λ t. cond t (Err causes.TooLong) (cond line.ended (Ok line.bytes) (Err causes.CutOff)) >>= read) long)
+              ∙ found in cc,
+          ltb-true _ _ long,
+        )
     | inr fits ↦
-        let behind = sym (ap (λ t. cond t (Err causes.TooLong) (cond line.ended (Ok line.bytes) (Err causes.CutOff)) >>= read) fits) ∙ found in
+        let behind = sym (ap (λ t. cond t (Err causes.TooLong) (cond line.ended (Ok line.bytes) (Err causes.CutOff)) >>= read) fits)
+        ∙ found in
         inr (
           ltb-false _ _ fits,
           elim (cases_Bool line.ended) [
             | inl ended ↦ inr (ended, law.0 (sym (ap (λ t. cond t (Ok line.bytes) (Err causes.CutOff) >>= read) ended) ∙ behind))
-            | inr open_end ↦ inl (let e = sym (ap (λ t. cond t (Ok line.bytes) (Err causes.CutOff) >>= read) open_end) ∙ behind in cc, open_end)
+            | inr open_end ↦ inl (
+              let e = sym (ap (λ t. cond t (Ok line.bytes) (Err causes.CutOff) >>= read) open_end) ∙ behind in
+                  cc,
+              open_end,
+            )
           ],
         )
   ],
   λ is. elim is [
-    | inl long ↦ ap (λ t. cond t (Err causes.TooLong) (cond line.ended (Ok line.bytes) (Err causes.CutOff)) >>= read) (lt-ltb 40000 (length line.bytes) long.1) ∙ ap Err (sym long.0)
+    | inl long ↦ ap (λ t. cond t (Err causes.TooLong) (cond line.ended (Ok line.bytes) (Err causes.CutOff)) >>= read)
+        (lt-ltb 40000 (length line.bytes) long.1) ∙ ap Err (sym long.0)
     | inr fits ↦
         let behind : (cond line.ended (Ok line.bytes) (Err causes.CutOff) >>= read) ≡ Err cause = elim fits.1 [
           | inl open_end ↦ ap (λ t. cond t (Ok line.bytes) (Err causes.CutOff) >>= read) open_end.1 ∙ ap Err (sym open_end.0)
           | inr ended ↦ ap (λ t. cond t (Ok line.bytes) (Err causes.CutOff) >>= read) ended.0 ∙ law.1 ended.1
         ] in
-        ap (λ t. cond t (Err causes.TooLong) (cond line.ended (Ok line.bytes) (Err causes.CutOff)) >>= read) (le-ltb 40000 (length line.bytes) fits.0) ∙ behind
+        ap (λ t. cond t (Err causes.TooLong) (cond line.ended (Ok line.bytes) (Err causes.CutOff)) >>= read)
+        (le-ltb 40000 (length line.bytes) fits.0) ∙ behind
   ],
 )

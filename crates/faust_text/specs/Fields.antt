@@ -51,7 +51,9 @@ place_of (text ∷ texts) token = cond (bytes_eq token text) (Some 0) (option_ma
 
 -- A token that is a number, in a range.
 abbrev pub number_in : ℕ → ℕ → List ℕ → Result ℕ Cause
-number_in low high token = cond (is_number token) (cond (nat_le low (worth token) && nat_le (worth token) high) (Ok (worth token)) (Err causes.Number)) (Err causes.Word)
+number_in low high token =
+    cond (is_number token) (cond (nat_le low (worth token) && nat_le (worth token) high) (Ok (worth token)) (Err causes.Number))
+    (Err causes.Word)
 
 -- A token that begins as a value does: with a quotation mark or with `0x`.
 abbrev pub begins_as_value : List ℕ → Bool
@@ -69,7 +71,8 @@ field_at (word text) token = cond (bytes_eq token text) (Ok tt) (Err causes.Word
 field_at (one_of words) token = or_cause (place_of words token) causes.Word
 field_at (number low high) token = number_in low high token
 field_at any_number token = cond (is_number token) (Ok token) (Err causes.Word)
-field_at kind token = cond (bytes_eq token (codes "write")) (Ok kinds.Write) (cond (bytes_eq token (codes "read")) (Ok kinds.Read) (Err causes.Word))
+field_at kind token =
+    cond (bytes_eq token (codes "write")) (Ok kinds.Write) (cond (bytes_eq token (codes "read")) (Ok kinds.Read) (Err causes.Word))
 field_at value token = cond (begins_as_value token) (or_cause (value_of 4096 token) causes.Value) (Err causes.Word)
 field_at bytes token = cond (begins_as_value token) (or_cause (bytes_of 16384 token) causes.Value) (Err causes.Word)
 field_at key token = some_key (hex_of 128 token)

@@ -90,7 +90,8 @@ head_at form heads.Title tokens = fields_at (title_form form) tokens >>= λ give
 head_at form heads.Wire tokens = fields_at wire_form tokens >>= λ given. Ok (Next (heads.Clients (record { text = 2; wire = given.1.0 })))
 head_at form (heads.Clients formats) tokens = fields_at (clients_form form) tokens >>= λ given. Ok (Next (heads.Key formats given.1.0))
 head_at form (heads.Key formats clients) tokens = fields_at key_form tokens >>= λ given. Ok (Next (heads.Delta formats clients given.1.0))
-head_at form (heads.Delta formats clients bytes) tokens = fields_at delta_form tokens >>= λ given. Ok (Next (heads.Dummy formats clients bytes given.1.0))
+head_at form (heads.Delta formats clients bytes) tokens =
+    fields_at delta_form tokens >>= λ given. Ok (Next (heads.Dummy formats clients bytes given.1.0))
 head_at form (heads.Dummy formats clients bytes delta) tokens = fields_at dummy_form tokens
     >>= λ given. Ok (Whole formats.text (config_of formats clients bytes delta given.1.0))
 

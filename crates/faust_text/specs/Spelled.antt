@@ -50,11 +50,17 @@ SpellsFields (field ∷ fields) given (token ∷ tokens) = SpellsField field giv
 abbrev pub IsFault : Field → List ℕ → Cause → Type 0
 IsFault (word text) token cause = (cause ≡ causes.Word) × (token ≢ text)
 IsFault (one_of words) token cause = (cause ≡ causes.Word) × AllByRecursion (λ text. token ≢ text) words
-IsFault (number low high) token cause = ((cause ≡ causes.Word) × (is_number token ≡ false)) ⊎ ((cause ≡ causes.Number) × (is_number token ≡ true) × ((worth token < low) ⊎ (high < worth token)))
+IsFault (number low high) token cause =
+    ((cause ≡ causes.Word) × (is_number token ≡ false))
+    ⊎ ((cause ≡ causes.Number) × (is_number token ≡ true) × ((worth token < low) ⊎ (high < worth token)))
 IsFault any_number token cause = (cause ≡ causes.Word) × (is_number token ≡ false)
 IsFault kind token cause = (cause ≡ causes.Word) × ((given : Kind) → token ≢ kind_text given)
-IsFault value token cause = ((cause ≡ causes.Word) × (begins_as_value token ≡ false)) ⊎ ((cause ≡ causes.Value) × (begins_as_value token ≡ true) × ((given : List ℕ) → ¬ (SpellsField value given token)))
-IsFault bytes token cause = ((cause ≡ causes.Word) × (begins_as_value token ≡ false)) ⊎ ((cause ≡ causes.Value) × (begins_as_value token ≡ true) × ((given : List ℕ) → ¬ (SpellsField bytes given token)))
+IsFault value token cause =
+    ((cause ≡ causes.Word) × (begins_as_value token ≡ false))
+    ⊎ ((cause ≡ causes.Value) × (begins_as_value token ≡ true) × ((given : List ℕ) → ¬ (SpellsField value given token)))
+IsFault bytes token cause =
+    ((cause ≡ causes.Word) × (begins_as_value token ≡ false))
+    ⊎ ((cause ≡ causes.Value) × (begins_as_value token ≡ true) × ((given : List ℕ) → ¬ (SpellsField bytes given token)))
 IsFault key token cause = (cause ≡ causes.Value) × ((given : List ℕ) → ¬ (SpellsField key given token))
 
 -- Why tokens are refused in fields: from the left, the first that may not stand there, is missing or is one too many.
@@ -62,7 +68,8 @@ abbrev pub IsFirstFault : List Field → List (List ℕ) → Cause → Type 0
 IsFirstFault [] [] cause = ⊥
 IsFirstFault [] (token ∷ tokens) cause = cause ≡ causes.Word
 IsFirstFault (field ∷ fields) [] cause = cause ≡ causes.Word
-IsFirstFault (field ∷ fields) (token ∷ tokens) cause = IsFault field token cause ⊎ ((given : Given field) × SpellsField field given token × IsFirstFault fields tokens cause)
+IsFirstFault (field ∷ fields) (token ∷ tokens) cause =
+    IsFault field token cause ⊎ ((given : Given field) × SpellsField field given token × IsFirstFault fields tokens cause)
 
 -- What a field gives is in its range.
 abbrev pub IsInRange : (field : Field) → Given field → Type 0

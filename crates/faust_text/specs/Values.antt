@@ -38,7 +38,8 @@ bytes_of limit (b ∷ c ∷ digits) = cond ((b == 48) && (c == 120)) (hex_of lim
 -- The plain bytes before a closing quotation mark that ends the token.
 abbrev pub unquoted : List ℕ → Option (List ℕ)
 unquoted [] = None
-unquoted (b ∷ bs) = cond (b == 34) (cond (length bs == 0) (Some []) None) (cond (is_plain b) (option_map (λ value. b ∷ value) (unquoted bs)) None)
+unquoted (b ∷ bs) =
+    cond (b == 34) (cond (length bs == 0) (Some []) None) (cond (is_plain b) (option_map (λ value. b ∷ value) (unquoted bs)) None)
 
 abbrev pub within : ℕ → Option (List ℕ) → Option (List ℕ)
 within limit None = None

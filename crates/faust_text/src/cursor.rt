@@ -46,7 +46,8 @@ impl<'a> Cursor<'a> {
     }
 
     fn due(&mut self) -> Result<&'a [u8], LineError>
-        ensures due { MatchResult result (λ token. self.old ≡ token.now ∷ self.new) (λ e. (self.old ≡ []) × (e ≡ LineError.Refused Cause.Word)) }
+        ensures due { MatchResult result (λ token. self.old ≡ token.now ∷ self.new)
+            (λ e. (self.old ≡ []) × (e ≡ LineError.Refused Cause.Word)) }
         ensures gone { self.new ≡ drop 1 self.old }
     {
         match self.token() {

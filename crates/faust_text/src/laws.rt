@@ -40,34 +40,45 @@ pub fn numbers_are_their_digits()
 /// A token is read as the value or the bytes that it spells, and no other token is; a printed value is read again.
 #[tactic(auto, using(crate::proofs::ValueLaws::printed_again))]
 pub fn values_are_their_spellings()
-    ensures values { (limit : ℕ) (token value : List ℕ) → (value_of limit token ≡ Some value) ↔ (SpellsValue token value × (length value ≤ limit) × AreBytes value) }
-    ensures bytes { (limit : ℕ) (token bytes : List ℕ) → (bytes_of limit token ≡ Some bytes) ↔ ((token ≡ bytes_text bytes) × (length bytes ≤ limit) × AreBytes bytes) }
-    ensures printed { (limit : ℕ) (value : List ℕ) → AreBytes value → length value ≤ limit → value_of limit (value_text (Some value)) ≡ Some value }
+    ensures values { (limit : ℕ) (token value : List ℕ)
+        → (value_of limit token ≡ Some value) ↔ (SpellsValue token value × (length value ≤ limit) × AreBytes value) }
+    ensures bytes { (limit : ℕ) (token bytes : List ℕ)
+        → (bytes_of limit token ≡ Some bytes) ↔ ((token ≡ bytes_text bytes) × (length bytes ≤ limit) × AreBytes bytes) }
+    ensures printed { (limit : ℕ) (value : List ℕ) → AreBytes value → length value ≤ limit
+        → value_of limit (value_text (Some value)) ≡ Some value }
 {}
 
 /// What the fields of a line give is in their ranges.
 #[tactic(auto, using(crate::proofs::FieldLaws::fields_in_range))]
 pub fn fields_are_in_range()
-    ensures { (fields : List Field) (given : AllGiven fields) (tokens : List (List ℕ)) → SpellsFields fields given tokens → AreInRange fields given }
+    ensures { (fields : List Field) (given : AllGiven fields) (tokens : List (List ℕ)) → SpellsFields fields given tokens
+        → AreInRange fields given }
 {}
 
 /// A line's fields give what its tokens spell; tokens are refused there for the cause of the first of them, from the
 /// left, that may not stand in its field.
 pub fn fields_are_their_spellings()
-    ensures spelled { (fields : List Field) (tokens : List (List ℕ)) (given : AllGiven fields) → (fields_at fields tokens ≡ Ok given) ↔ SpellsFields fields given tokens }
-    ensures refused { (fields : List Field) (tokens : List (List ℕ)) (cause : Cause) → (fields_at fields tokens ≡ Err cause) ↔ IsFirstFault fields tokens cause }
+    ensures spelled { (fields : List Field) (tokens : List (List ℕ)) (given : AllGiven fields)
+        → (fields_at fields tokens ≡ Ok given) ↔ SpellsFields fields given tokens }
+    ensures refused { (fields : List Field) (tokens : List (List ℕ)) (cause : Cause)
+        → (fields_at fields tokens ≡ Err cause) ↔ IsFirstFault fields tokens cause }
 {}
 
 /// Lines are read as the head that they spell and as no other, and what they spell is in range; each line is refused
 /// for the cause of its first token that may not stand there.
 pub fn heads_are_their_lines()
-    ensures whole { (form : HeadForm) (lines : List (List ℕ)) (format : ℕ) (config : Config) → (head_read form (Next Title) lines ≡ Ok (Whole format config)) ↔ AreHeadLines form format config lines }
-    ensures in_range { (form : HeadForm) (format : ℕ) (config : Config) (lines : List (List ℕ)) → form.clients ≤ 32 → AreHeadLines form format config lines → IsConfig config }
-    ensures refused { (form : HeadForm) (head : Head) (tokens : List (List ℕ)) (cause : Cause) → (head_at form head tokens ≡ Err cause) ↔ IsFirstFault (due_form form head) tokens cause }
+    ensures whole { (form : HeadForm) (lines : List (List ℕ)) (format : ℕ) (config : Config)
+        → (head_read form (Next Title) lines ≡ Ok (Whole format config)) ↔ AreHeadLines form format config lines }
+    ensures in_range { (form : HeadForm) (format : ℕ) (config : Config) (lines : List (List ℕ)) → form.clients ≤ 32
+        → AreHeadLines form format config lines → IsConfig config }
+    ensures refused { (form : HeadForm) (head : Head) (tokens : List (List ℕ)) (cause : Cause)
+        → (head_at form head tokens ≡ Err cause) ↔ IsFirstFault (due_form form head) tokens cause }
 {}
 
 /// A config that a head can spell is read again from the lines that are printed of it.
 pub fn printed_heads_are_read()
-    ensures spelled { (form : HeadForm) (format : ℕ) (config : Config) → CanBeHead form format config → AreHeadLines form format config (head_lines form.title format config) }
-    ensures lines { (form : HeadForm) (format : ℕ) (config : Config) → CanBeHead form format config → lines_of (head_text form.title format config) ≡ ended_lines (head_lines form.title format config) }
+    ensures spelled { (form : HeadForm) (format : ℕ) (config : Config) → CanBeHead form format config
+        → AreHeadLines form format config (head_lines form.title format config) }
+    ensures lines { (form : HeadForm) (format : ℕ) (config : Config) → CanBeHead form format config
+        → lines_of (head_text form.title format config) ≡ ended_lines (head_lines form.title format config) }
 {}

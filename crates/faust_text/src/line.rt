@@ -61,7 +61,8 @@ pub fn line_at(input: &[u8], from: usize) -> Option<Line>
 pub fn whole_line(input: &[u8], line: Line) -> Result<&[u8], Cause>
     requires start { line.span.start ≤ line.span.end }
     requires end { line.span.end ≤ length input.now }
-    ensures { MatchResult result (λ text. whole_line (line_in input.now line) ≡ Ok text.now) (λ cause. whole_line (line_in input.now line) ≡ Err cause) }
+    ensures { MatchResult result (λ text. whole_line (line_in input.now line) ≡ Ok text.now)
+        (λ cause. whole_line (line_in input.now line) ≡ Err cause) }
 {
     let text = &input[line.span.start..line.span.end];
     if text.len() > MAX_LINE_LEN {

@@ -41,7 +41,14 @@ answered words ends status text result due kept (inl whole) =
     (answered_whole words ends status (record { text = text; due = due; written = whole.1; reads_kept = kept; writes_kept = whole.2 }))
 answered words ends status text result due kept (inr cut) =
     subst (λ (s : Status). IsAnswer words ends s) (sym cut.0)
-    (let h : IsCutOff words ends = record { status = status; text = text; due = due; prefix = cut.1; reads_kept = kept; write_failed = cut.2 } in h)
+    (let h : IsCutOff words ends = record {
+      status = status;
+      text = text;
+      due = due;
+      prefix = cut.1;
+      reads_kept = kept;
+      write_failed = cut.2;
+    } in h)
 
 -- Words that are no form.
 pub usage_answered : (words : List (List ℕ)) (ends : Ends) (result : Status) → IsNoForm words → ends.left_after ≡ ends.left_before
@@ -111,7 +118,8 @@ text_answered words ends command input output result form read runs is written =
       input_is = read_input_is limit ends.left_before ends.left_after ends.reads_failed_before ends.reads_failed_after input read;
       text_is = has;
       promised = promised command input runs;
-      source_read = read_source limit output.status ends.left_before ends.left_after ends.reads_failed_before ends.reads_failed_after input read;
+      source_read = read_source limit output.status ends.left_before ends.left_after ends.reads_failed_before
+          ends.reads_failed_after input read;
     }))
     (read_kept limit ends.left_before ends.left_after ends.reads_failed_before ends.reads_failed_after input read)
     written
@@ -139,7 +147,8 @@ over_of None before after failed_before failed_after h = absurd h
 over_of (Some most) before after failed_before failed_after h = over_some most before h.0
 
 over_read : (limit : Option ℕ) (before after : Option (List ℕ)) (failed_before failed_after : ℕ)
-    → ReadsInput limit before after failed_before failed_after (Err reads.TooLong) → IsRead limit Refused before after × (failed_after ≡ failed_before)
+    → ReadsInput limit before after failed_before failed_after (Err reads.TooLong)
+    → IsRead limit Refused before after × (failed_after ≡ failed_before)
 over_read None before after failed_before failed_after h = absurd h
 over_read (Some most) before after failed_before failed_after h = (tt, h.1)
 

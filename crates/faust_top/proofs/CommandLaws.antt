@@ -72,7 +72,8 @@ plain_form : (word : List ℕ) (command : Command) → plain_command word ≡ So
 plain_form word command found =
     let held = find_holds (λ c. bytes_eq (word_of c) word) IsPlain plain_commands command all_plain found in
     let spelled : word_of command ≡ word = (bytes_eq-Decides (word_of command) word).0 held.0 in record {
-      words_are = ap (λ (w : List ℕ). w ∷ []) (sym spelled) ∙ ap (λ (numbers : List (List ℕ)). word_of command ∷ numbers) (sym held.1.no_numbers);
+      words_are = ap (λ (w : List ℕ). w ∷ []) (sym spelled)
+          ∙ ap (λ (numbers : List (List ℕ)). word_of command ∷ numbers) (sym held.1.no_numbers);
       in_range = held.1.in_range;
     }
 
@@ -86,7 +87,8 @@ record IsSampleOf (seed clients ops : Option ℕ) (command : Command) : Type 0 w
   ops_is : ops ≡ Some o
   command_is : commands.Sample s n o ≡ command
 
-sample_parts : (seed clients ops : Option ℕ) (command : Command) → sample_of seed clients ops ≡ Some command → IsSampleOf seed clients ops command
+sample_parts : (seed clients ops : Option ℕ) (command : Command) → sample_of seed clients ops ≡ Some command
+    → IsSampleOf seed clients ops command
 sample_parts None clients ops command found = absurd (cc)
 sample_parts (Some s) None ops command found = absurd (cc)
 sample_parts (Some s) (Some n) None command found = absurd (cc)
@@ -96,12 +98,14 @@ sample_parts (Some s) (Some n) (Some o) command found =
 sample_from : (seed clients ops : Option ℕ) (s n o : ℕ) → seed ≡ Some s → clients ≡ Some n → ops ≡ Some o
     → sample_of seed clients ops ≡ Some (commands.Sample s n o)
 sample_from seed clients ops s n o seed_is clients_is ops_is =
-    ap (λ x. sample_of x clients ops) seed_is ∙ (ap (λ x. sample_of (Some s) x ops) clients_is ∙ ap (λ x. sample_of (Some s) (Some n) x) ops_is)
+    ap (λ x. sample_of x clients ops) seed_is
+    ∙ (ap (λ x. sample_of (Some s) x ops) clients_is ∙ ap (λ x. sample_of (Some s) (Some n) x) ops_is)
 
 sample_form : (word seed clients ops : List ℕ) (command : Command) → sample_command word seed clients ops ≡ Some command
     → IsForm (word ∷ seed ∷ clients ∷ ops ∷ []) command
 sample_form word seed clients ops command found =
-    elim (chosen (bytes_eq word (codes "sample")) (sample_of (number_of seed) (number_between clients 2 32) (number_between ops 1 3000)) None (Some command) found) [
+    elim (chosen (bytes_eq word (codes "sample")) (sample_of (number_of seed) (number_between clients 2 32) (number_between ops 1 3000))
+    None (Some command) found) [
       | inl taken ↦
           let parts = sample_parts _ _ _ command taken.1 in
           let n_is = between_parts 2 32 (number_of clients) parts.n parts.clients_is in
@@ -114,7 +118,11 @@ sample_form word seed clients ops command found =
                 ((bytes_eq-Decides word (codes "sample")).0 taken.0) s_told.1 n_told.1 o_told.1;
             in_range = record {
               seed_fits = s_told.0;
-              size = record { clients_count = record { at_least_two = n_is.from; at_most_32 = n_is.to }; from_one = o_is.from; to_3000 = o_is.to };
+              size = record {
+                clients_count = record { at_least_two = n_is.from; at_most_32 = n_is.to };
+                from_one = o_is.from;
+                to_3000 = o_is.to;
+              };
             };
           } in
           subst (λ (c : Command). IsForm (word ∷ seed ∷ clients ∷ ops ∷ []) c) parts.command_is is
@@ -143,7 +151,8 @@ command_read (commands.Sample seed clients ops) is =
     let o_fits : ops < 2 ^ 64 = let few = is.size.to_3000 in omega (arith, few) in
     let n_is : number_of (decimal clients) ≡ Some clients = (numbers_are (decimal clients) clients).1 (n_fits, refl) in
     let o_is : number_of (decimal ops) ≡ Some ops = (numbers_are (decimal ops) ops).1 (o_fits, refl) in
-    sample_from (number_of (decimal seed)) (number_between (decimal clients) 2 32) (number_between (decimal ops) 1 3000) seed clients ops s_is
+    sample_from (number_of (decimal seed)) (number_between (decimal clients) 2 32)
+    (number_between (decimal ops) 1 3000) seed clients ops s_is
     (ap (between 2 32) n_is ∙ between_from 2 32 clients is.size.clients_count.at_least_two is.size.clients_count.at_most_32)
     (ap (between 1 3000) o_is ∙ between_from 1 3000 ops is.size.from_one is.size.to_3000)
 

@@ -38,7 +38,8 @@ record_read command before after failed_before failed_after input reads whole =
     subst (λ (limit : Option ℕ). ReadsInput limit before after failed_before failed_after (Ok input)) (sym (limit_is command reads)) whole
 
 -- What is told of the run of a record, and the line that is refused.
-pub run_told : (command : Command) (before after : Option (List ℕ)) (failed_before failed_after : ℕ) (run : Run) (taken : Accepted) (output : Output)
+pub run_told : (command : Command) (before after : Option (List ℕ)) (failed_before failed_after : ℕ) (run : Run) (taken : Accepted)
+    (output : Output)
     → ReadsRecord command → IsRun run.config run.entries → taken ≡ record { run = run; format = 2 }
     → HasRead 400000000 before after failed_before failed_after (Ok run)
     → output ≡ output_of_judged command taken (verdict_for command taken.run)

@@ -65,7 +65,8 @@ pub input_has : (command : Command) (input : List ℕ) → IsInRange command →
 input_has command input range few = accepted_has command input (accepted command input) (due_of command input range) few refl
 
 -- An input is over its limit, or within it.
-over_or_within : (limit : Option ℕ) (input : List ℕ) → (IsOver limit input × (is_over limit input ≡ true)) ⊎ (IsWithin limit input × (is_over limit input ≡ false))
+over_or_within : (limit : Option ℕ) (input : List ℕ) → (IsOver limit input × (is_over limit input ≡ true))
+    ⊎ (IsWithin limit input × (is_over limit input ≡ false))
 over_or_within None input = inr (tt, refl)
 over_or_within (Some most) input =
     elim (cases_lt most (length input)) [
@@ -83,17 +84,20 @@ within_is (Some most) input within = le-ltb _ _ within
 
 -- Every input has an output.
 long : (command : Command) (input : List ℕ) → is_over (limit_of command) input ≡ true → output_of command input ≡ too_long_output
-long command input over = cond-true (is_over (limit_of command) input) too_long_output (output_of_accepted command (accepted command input)) over
+long command input over = cond-true (is_over (limit_of command) input) too_long_output
+    (output_of_accepted command (accepted command input)) over
 
 short : (command : Command) (input : List ℕ) → is_over (limit_of command) input ≡ false
     → output_of command input ≡ output_of_accepted command (accepted command input)
-short command input within = cond-false (is_over (limit_of command) input) too_long_output (output_of_accepted command (accepted command input)) within
+short command input within = cond-false (is_over (limit_of command) input) too_long_output
+    (output_of_accepted command (accepted command input)) within
 
 pub has_output : (command : Command) (input : List ℕ) → IsInRange command → Has command input (output_of command input)
 has_output command input range =
     elim (over_or_within (limit_of command) input) [
       | inl over ↦ subst (λ (o : Output). Has command input o) (sym (long command input over.1)) (inl (over.0, refl))
-      | inr within ↦ subst (λ (o : Output). Has command input o) (sym (short command input within.1)) (input_has command input range within.0)
+      | inr within ↦ subst (λ (o : Output). Has command input o) (sym (short command input within.1))
+          (input_has command input range within.0)
     ]
 
 -- It has no other.

@@ -19,7 +19,8 @@ script_printable script run is plays kept =
     let few : length script.events ≤ 20000 = is.few_events in record {
       is_run = kept;
       few_entries = omega (arith, short, few);
-      format_known = subst (λ (config : Config). IsTextVersion script.format config.wire) (sym (played_config script run plays)) is.format_known;
+      format_known = subst (λ (config : Config). IsTextVersion script.format config.wire)
+          (sym (played_config script run plays)) is.format_known;
     }
 
 pub record_printable : (input : List ℕ) (run : Run) → read input ≡ Ok run → IsRun run.config run.entries

@@ -34,7 +34,8 @@ unread_behind a b front left most before middle after reads.Failed taken sum sam
 unread_behind a b front left most before middle after reads.OutOfMemory taken sum same unread = unread ∙ same
 
 -- The whole input was read.
-pub whole_read : (a b : Option (List ℕ)) (input : List ℕ) (most before after : ℕ) → Consumes a b input → IsAtEnd b → length input ≤ most → after ≡ before
+pub whole_read : (a b : Option (List ℕ)) (input : List ℕ) (most before after : ℕ) → Consumes a b input → IsAtEnd b → length input ≤ most
+    → after ≡ before
     → IsInputRead most a b before after input
 whole_read a b input most before after taken end few same = record {
   whole = record { all = Consumes-whole a b input (λ content. content ≡ input) taken end refl; at_end = end };
@@ -43,7 +44,8 @@ whole_read a b input most before after taken end few same = record {
 }
 
 -- A refusal by the store of what came so far is one of the whole record.
-pub refused_read : (a b c : Option (List ℕ)) (front : List ℕ) (left most before middle after : ℕ) (error : StoreError) (result : RecordError)
+pub refused_read : (a b c : Option (List ℕ)) (front : List ℕ) (left most before middle after : ℕ) (error : StoreError)
+    (result : RecordError)
     → Consumes a b front → length front + left ≡ most → middle ≡ before → ((later : List ℕ) → Reads (Err error) (read (front ++ later)))
     → IsRefusal left b c middle after error result → ReadsRun most a c before after (Err result)
 refused_read a b c front left most before middle after (store.BadRecord line cause) (errors.Refused number why) taken sum same due refusal =
@@ -57,7 +59,8 @@ refused_read a b c front left most before middle after (store.BadRecord line cau
           subst (λ (w : Cause). read input ≡ Err (record { line = number; cause = w })) (sym refusal.3)
           (subst (λ (n : ℕ). read input ≡ Err (record { line = n; cause = cause })) (sym refusal.2) (due rest.rest));
     }
-refused_read a b c front left most before middle after store.OutOfMemory (errors.Refused number why) taken sum same due refusal = absurd refusal
+refused_read a b c front left most before middle after store.OutOfMemory (errors.Refused number why) taken sum same due refusal =
+    absurd refusal
 refused_read a b c front left most before middle after (store.BadRecord line cause) (errors.Unread e) taken sum same due refusal =
     unread_behind a b front left most before middle after e taken sum same refusal
 refused_read a b c front left most before middle after store.OutOfMemory (errors.Unread e) taken sum same due refusal =
@@ -68,12 +71,14 @@ regrouped : (front piece bytes later : List ℕ) → piece ≡ bytes → read (f
 regrouped front piece bytes later is =
     ap (λ (p : List ℕ). read (front ++ (p ++ later))) is ∙ ap read (sym (append_assoc front bytes later))
 
-pub due_behind : (front piece bytes : List ℕ) (feed next : Feed) → piece ≡ bytes → ((later : List ℕ) → due_of feed later ≡ read (front ++ later))
+pub due_behind : (front piece bytes : List ℕ) (feed next : Feed) → piece ≡ bytes
+    → ((later : List ℕ) → due_of feed later ≡ read (front ++ later))
     → Takes (Ok next) feed piece → (later : List ℕ) → due_of next later ≡ read ((front ++ bytes) ++ later)
 due_behind front piece bytes feed next is due takes later =
     takes later ∙ (due (piece ++ later) ∙ regrouped front piece bytes later is)
 
-pub refusal_behind : (front piece bytes : List ℕ) (feed : Feed) (error : StoreError) → piece ≡ bytes → ((later : List ℕ) → due_of feed later ≡ read (front ++ later))
+pub refusal_behind : (front piece bytes : List ℕ) (feed : Feed) (error : StoreError) → piece ≡ bytes
+    → ((later : List ℕ) → due_of feed later ≡ read (front ++ later))
     → Takes (Err error) feed piece → (later : List ℕ) → Reads (Err error) (read ((front ++ bytes) ++ later))
 refusal_behind front piece bytes feed error is due takes later =
     subst (λ (d : Result Run Refusal). Reads (Err error) d) (due (piece ++ later) ∙ regrouped front piece bytes later is) (takes later)

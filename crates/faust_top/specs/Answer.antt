@@ -41,7 +41,8 @@ abbrev pub IsTextFor : Command → List ℕ → Status → List ℕ → Type 0
 IsTextFor command input Done text = (taken : Accepted) × IsAccepted command input taken × (verdict_for command taken.run ≡ clean)
     × (text ≡ text_of command taken)
 IsTextFor command input Refused text = IsRefusedWith command input text
-IsTextFor command input Premise text = (taken : Accepted) × IsAccepted command input taken × IsPremiseText (verdict_for command taken.run) text
+IsTextFor command input Premise text =
+    (taken : Accepted) × IsAccepted command input taken × IsPremiseText (verdict_for command taken.run) text
 IsTextFor command input Usage text = ⊥
 IsTextFor command input ReadFault text = ⊥
 IsTextFor command input WriteFault text = ⊥

@@ -127,7 +127,8 @@ fn next_piece<S: Source>(
 ) -> Result<Piece, ReadError>
     requires room { 0 < vec_len buffer.old }
     requires left { left < 2 ^ 62 }
-    ensures piece { GivesPiece left (S.left source.old) (S.left source.new) (S.faults source.old) (S.faults source.new) buffer.new.items result }
+    ensures piece { GivesPiece left (S.left source.old) (S.left source.new) (S.faults source.old)
+        (S.faults source.new) buffer.new.items result }
     ensures room { 0 < vec_len buffer.new }
 {
     buffer.truncate(left + 1);

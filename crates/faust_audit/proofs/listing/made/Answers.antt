@@ -29,7 +29,8 @@ see-requires-clause-client c =
     let run : IsRun config xs = c.config-config.ensures.kept in
     let at : IsEntryAt xs q e = entry-at xs q e (sym c.in-Some.ensures) in
     let client = client-at config (take q xs) (drop (q + 1) xs) e (run-at config xs q e run at) in
-    subst (λ (n : ℕ). IsClient n e.client) (sym (watched-sized config xs q e.client c.in_ok-watched.watched run client c.in_ok-watched.ensures)) client
+    subst (λ (n : ℕ). IsClient n e.client) (sym
+    (watched-sized config xs q e.client c.in_ok-watched.watched run client c.in_ok-watched.ensures)) client
 
 pub see-requires-clause-reply : goal.see-requires-clause-reply
 see-requires-clause-reply c =
@@ -53,7 +54,8 @@ bodies_made-requires-clause-client c =
     let run : IsRun config xs = c.config-config.ensures.kept in
     let at : IsEntryAt xs q e = entry-at xs q e (sym c.in-Some.ensures) in
     let client = client-at config (take q xs) (drop (q + 1) xs) e (run-at config xs q e run at) in
-    subst (λ (n : ℕ). IsClient n e.client) (sym (watched-sized config xs q e.client c.in_ok-watched.watched run client c.in_ok-watched.ensures)) client
+    subst (λ (n : ℕ). IsClient n e.client) (sym
+    (watched-sized config xs q e.client c.in_ok-watched.watched run client c.in_ok-watched.ensures)) client
 
 pub returns : goal.returns
 returns c = λ d.

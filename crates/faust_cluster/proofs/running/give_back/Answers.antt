@@ -12,6 +12,7 @@ loop-each-preserved g c =
       can_next = tt;
       finite = tt;
       counted = subst (λ (h : Health). CountsHealth h before now) (sym c.worse-health.ensures)
-          (worse-counted c.loop-each.health c.give_one_back.result before between now c.loop-each.invariant.counted c.give_one_back.ensures.count);
+          (worse-counted c.loop-each.health c.give_one_back.result before between now c.loop-each.invariant.counted
+          c.give_one_back.ensures.count);
       told = c.give_one_back.ensures.told;
     }

@@ -15,7 +15,8 @@ returns-then-is_some c =
     let finished : Finished = record { answer = c.in-Some.answer.now; number = e.number } in
     let within : q < length all = omega (arith, c.loop-q-test.true, c.len-q-end.ensures) in
     let inside : next < length told = omega (arith, c.loop-q.invariant.0, c.if-next-told.false) in
-    receipt-named c.args.client all q e e finished told next c.index-told-next.result c.index-told-next.result c.in_ok-line-in-Some.line within
+    receipt-named c.args.client all q e e finished told next c.index-told-next.result c.index-told-next.result
+    c.in_ok-line-in-Some.line within
     (c.entry_at-entry.ensures e) (sym c.in-Some.ensures) inside c.index-told-next.is c.in_ok-line-in-Some.ensures
     (sym c.is_some.ensures ∙ c.if-is_some.true)
     ∙ sym c.loop-q.invariant.1
@@ -32,18 +33,24 @@ loop-q-preserved c =
     elim c.match-told_in.branch [
       | in-Some+in_ok-line-in-Some+else-is_some+in-Some+in-Own-1 w ↦
           receipt-passed c.args.client all q e e (record { answer = w.in-Some.answer.now; number = e.number }) told next
-          c.match-told_in.next w.index-told-next.result w.index-told-next.result w.in_ok-line-in-Some.line within (c.entry_at-entry.ensures e)
-          (sym w.in-Some.ensures) inside w.index-told-next.is w.in_ok-line-in-Some.ensures (sym w.is_some.ensures ∙ w.if-is_some.false) w.next-is
+          c.match-told_in.next w.index-told-next.result w.index-told-next.result w.in_ok-line-in-Some.line within
+          (c.entry_at-entry.ensures e)
+          (sym w.in-Some.ensures) inside w.index-told-next.is w.in_ok-line-in-Some.ensures (sym w.is_some.ensures
+          ∙ w.if-is_some.false) w.next-is
           c.loop-q.invariant.1
       | in-Some+in_ok-line-in-Some+else-is_some+in-Some+in-Shared-1 w ↦
           receipt-passed c.args.client all q e e (record { answer = w.in-Some.answer.now; number = e.number }) told next
-          c.match-told_in.next w.index-told-next.result w.index-told-next.result w.in_ok-line-in-Some.line within (c.entry_at-entry.ensures e)
-          (sym w.in-Some.ensures) inside w.index-told-next.is w.in_ok-line-in-Some.ensures (sym w.is_some.ensures ∙ w.if-is_some.false) w.next-is
+          c.match-told_in.next w.index-told-next.result w.index-told-next.result w.in_ok-line-in-Some.line within
+          (c.entry_at-entry.ensures e)
+          (sym w.in-Some.ensures) inside w.index-told-next.is w.in_ok-line-in-Some.ensures (sym w.is_some.ensures
+          ∙ w.if-is_some.false) w.next-is
           c.loop-q.invariant.1
       | in-Some+in_ok-line-in-Some+else-is_some+in-None-1 w ↦
           receipt-passed c.args.client all q e e (record { answer = w.in-Some.answer.now; number = e.number }) told next
-          c.match-told_in.next w.index-told-next.result w.index-told-next.result w.in_ok-line-in-Some.line within (c.entry_at-entry.ensures e)
-          (sym w.in-Some.ensures) inside w.index-told-next.is w.in_ok-line-in-Some.ensures (sym w.is_some.ensures ∙ w.if-is_some.false) w.next-is
+          c.match-told_in.next w.index-told-next.result w.index-told-next.result w.in_ok-line-in-Some.line within
+          (c.entry_at-entry.ensures e)
+          (sym w.in-Some.ensures) inside w.index-told-next.is w.in_ok-line-in-Some.ensures (sym w.is_some.ensures
+          ∙ w.if-is_some.false) w.next-is
           c.loop-q.invariant.1
       | in-None w ↦
           entry-passed c.args.client all q e e told next c.match-told_in.next within (c.entry_at-entry.ensures e)

@@ -28,6 +28,7 @@ loop-q-preserved c =
       | else-from-client-via-then-from-client+else-is_some v ↦
           and-not-right (e.client == i) (has_notice e) (ap is_some (sym v.notice.ensures) ∙ sym v.is_some.ensures ∙ v.if-is_some.false)
       | else-from-client-via-else-from-client v ↦
-          and-not-left (e.client == i) (has_notice e) (ne_eqb e.client i (λ same. omega (arith, c.from.ensures, v.if-from-client.false, same)))
+          and-not-left (e.client == i) (has_notice e)
+          (ne_eqb e.client i (λ same. omega (arith, c.from.ensures, v.if-from-client.false, same)))
     ] in
     notice-passed i all q e e within (c.entry_at-entry.ensures e) c.loop-q.invariant other

@@ -25,4 +25,5 @@ unfolding drawn_events
 returns c =
     let whole : c.loop.counter ≡ 4 * (c.args.ops - 1) = omega arith in
     let events_of : Progress → List Event = λ progress. progress.events in
-    ap events_of (c.loop.invariant ∙ ap (λ (steps : ℕ). after_steps c.args.clients c.args.ops (beginning c.args.seed c.args.clients) steps) whole)
+    ap events_of (c.loop.invariant
+    ∙ ap (λ (steps : ℕ). after_steps c.args.clients c.args.ops (beginning c.args.seed c.args.clients) steps) whole)

@@ -8,4 +8,5 @@ loop-before-init c = each_first c.args.events.now (λ j. to_another c.args.k c.a
 
 pub loop-before-preserved : goal.loop-before-preserved
 loop-before-preserved c =
-    c.in_ok-put_peer.ensures ∙ each_more_behind c.args.events.now c.loop-before.events c.loop-before.before (λ j. to_another c.args.k c.args.sender j) c.loop-before.invariant
+    c.in_ok-put_peer.ensures ∙ each_more_behind c.args.events.now c.loop-before.events c.loop-before.before
+    (λ j. to_another c.args.k c.args.sender j) c.loop-before.invariant

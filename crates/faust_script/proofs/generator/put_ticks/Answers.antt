@@ -8,4 +8,5 @@ loop-before-init c = each_first c.args.events.now (λ i. event.Tick i c.args.mom
 
 pub loop-before-preserved : goal.loop-before-preserved
 loop-before-preserved c =
-    c.in_ok-push.ensures.ok ∙ each_more_behind c.args.events.now c.loop-before.events c.loop-before.before (λ i. event.Tick i c.args.moment ∷ []) c.loop-before.invariant
+    c.in_ok-push.ensures.ok ∙ each_more_behind c.args.events.now c.loop-before.events c.loop-before.before
+    (λ i. event.Tick i c.args.moment ∷ []) c.loop-before.invariant

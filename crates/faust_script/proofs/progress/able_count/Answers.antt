@@ -9,9 +9,17 @@ loop-actor-preserved c =
     let i = c.loop-actor.actor-index in
     elim c.if-can_act.branch [
       | then-can_act w ↦
-          let more = ap (λ (clients : List ℕ). length clients) (able_taken c.args.may_begin actors i _ c.loop-actor-test.true (sym c.can_act.ensures ∙ w.if-can_act.true)) in
-          record { few = omega (arith, w.count-is, c.loop-actor.invariant.few); so_far = omega (arith, w.count-is, more, c.loop-actor.invariant.so_far) }
+          let more = ap (λ (clients : List ℕ). length clients)
+          (able_taken c.args.may_begin actors i _ c.loop-actor-test.true (sym c.can_act.ensures ∙ w.if-can_act.true)) in
+          record {
+            few = omega (arith, w.count-is, c.loop-actor.invariant.few);
+            so_far = omega (arith, w.count-is, more, c.loop-actor.invariant.so_far);
+          }
       | else-can_act w ↦
-          let same = ap (λ (clients : List ℕ). length clients) (able_passed c.args.may_begin actors i _ c.loop-actor-test.true (sym c.can_act.ensures ∙ w.if-can_act.false)) in
-          record { few = omega (arith, w.count-is, c.loop-actor.invariant.few); so_far = omega (arith, w.count-is, same, c.loop-actor.invariant.so_far) }
+          let same = ap (λ (clients : List ℕ). length clients)
+          (able_passed c.args.may_begin actors i _ c.loop-actor-test.true (sym c.can_act.ensures ∙ w.if-can_act.false)) in
+          record {
+            few = omega (arith, w.count-is, c.loop-actor.invariant.few);
+            so_far = omega (arith, w.count-is, same, c.loop-actor.invariant.so_far);
+          }
     ]

@@ -12,7 +12,8 @@ returns-in-Err c = λ later.
     let due = lines_from c.args.start c.args.first (lines_of (bytes ++ later)) in
     subst (λ (e : StoreError). Reads (Err e) due) (sym c.refused.ensures)
     (one_refused c.loop-line.stage c.loop-line.number c.in-Err.error (line_in bytes line) (lines_of (drop c.loop-line.from bytes ++ later))
-    (lines_of (drop (line.span.end + 1) bytes ++ later)) due (c.in-Some.ensures.lines_from later) c.in-Err.ensures.gives (c.loop-line.invariant.so_far later))
+    (lines_of (drop (line.span.end + 1) bytes ++ later)) due (c.in-Some.ensures.lines_from later) c.in-Err.ensures.gives
+    (c.loop-line.invariant.so_far later))
 
 pub loop-line-preserved : goal.loop-line-preserved
 loop-line-preserved c =
@@ -23,6 +24,7 @@ loop-line-preserved c =
       within = c.in-Some.ensures.within;
       so_far = λ later.
           c.loop-line.invariant.so_far later
-          ∙ one_taken c.loop-line.stage c.in-Ok.stage c.loop-line.number (line_in bytes line) (lines_of (drop c.loop-line.from bytes ++ later))
+          ∙ one_taken c.loop-line.stage c.in-Ok.stage c.loop-line.number (line_in bytes line)
+          (lines_of (drop c.loop-line.from bytes ++ later))
           (lines_of (drop (line.span.end + 1) bytes ++ later)) (c.in-Some.ensures.lines_from later) c.in-Ok.ensures.gives;
     }

@@ -9,7 +9,8 @@ invariant-loop-line l = record {
   in_range : IsStage l.stage;
   counted : l.number ≤ l.fn.first + l.from;
   within : l.from ≤ length l.bytes;
-  so_far : (later : List ℕ) → lines_from l.fn.start l.fn.first (lines_of (l.bytes ++ later)) ≡ lines_from l.stage l.number (lines_of (drop l.from l.bytes ++ later));
+  so_far : (later : List ℕ) → lines_from l.fn.start l.fn.first (lines_of (l.bytes ++ later))
+      ≡ lines_from l.stage l.number (lines_of (drop l.from l.bytes ++ later));
 }
 
 abbrev pub decreases-loop-line : goal.decreases-loop-line

@@ -25,12 +25,15 @@ loop-line-preserved c = record {
   in_range = c.in-Ok.ensures.stage;
   counted = omega (arith, c.in-Some.ensures.not_before, c.loop-line.invariant.counted);
   within = omega (arith, c.in-Some.ensures.within);
-  so_far = sym (line_taken c.args.input.now c.loop-line.from c.loop-line.number c.in-Some.line c.loop-line.stage c.in-Ok.stage c.in-Some.ensures c.in-Ok.ensures.gives) ∙ c.loop-line.invariant.so_far;
+  so_far =
+      sym (line_taken c.args.input.now c.loop-line.from c.loop-line.number c.in-Some.line c.loop-line.stage c.in-Ok.stage
+      c.in-Some.ensures c.in-Ok.ensures.gives) ∙ c.loop-line.invariant.so_far;
 }
 
 pub returns : goal.returns
 returns c =
     let due = lines_from c.args.start c.args.first (lines_of c.args.input.now) in
     let left : finished c.loop-line.stage c.loop-line.number ≡ due =
-    sym (lines_ended c.args.input.now c.loop-line.from c.loop-line.number c.loop-line.stage c.in_default.ensures) ∙ c.loop-line.invariant.so_far in
+    sym (lines_ended c.args.input.now c.loop-line.from c.loop-line.number c.loop-line.stage c.in_default.ensures)
+    ∙ c.loop-line.invariant.so_far in
     subst (λ (d : Result Run Refusal). Reads c.finish.result d) left c.finish.ensures

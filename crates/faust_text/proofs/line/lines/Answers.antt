@@ -14,4 +14,5 @@ loop-line-preserved c =
     let rest = places_from (c.in-Some.line.span.end + 1) (lines_of (drop (c.in-Some.line.span.end + 1) c.args.input.now)) in
     ap (λ ts. ts ++ rest) c.in_ok-push.ensures.ok
     ∙ (append_assoc c.loop-line.lines (c.in-Some.line ∷ []) rest
-    ∙ (ap (λ ts. c.loop-line.lines ++ ts) (sym (places-more c.args.input.now c.loop-line.from c.in-Some.line c.in-Some.ensures)) ∙ c.loop-line.invariant))
+    ∙ (ap (λ ts. c.loop-line.lines ++ ts) (sym (places-more c.args.input.now c.loop-line.from c.in-Some.line c.in-Some.ensures))
+    ∙ c.loop-line.invariant))

@@ -25,4 +25,6 @@ returns-clause-ok c =
     let text = set l.digits (l.at - 1) (48 + l.rest) in
     let part = take_rest text (l.at - 1) in
     let digits = first_digit_put l.digits l.at l.rest c.args.x k.some (omega arith) c.loop-rest-test.false k.so_far in
-    IfOk-equal c.append.result _ _ _ c.append.ensures.ok (ap (λ ds. c.args.out.now ++ ds) (ap (λ n. take (n - (l.at - 1)) (drop (l.at - 1) text)) (sym (length-set l.digits (l.at - 1) (48 + l.rest) ∙ k.sized)) ∙ (part ∙ digits)))
+    IfOk-equal c.append.result _ _ _ c.append.ensures.ok
+    (ap (λ ds. c.args.out.now ++ ds) (ap (λ n. take (n - (l.at - 1)) (drop (l.at - 1) text))
+    (sym (length-set l.digits (l.at - 1) (48 + l.rest) ∙ k.sized)) ∙ (part ∙ digits)))

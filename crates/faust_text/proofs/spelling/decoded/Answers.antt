@@ -13,8 +13,11 @@ returns-then-decode_into c =
     let made = c.decode_into.new.bytes in
     let few : c.in_ok-bytes.bytes.len ≤ length made = omega (arith, c.decode_into.auto.bytes, c.as_mut_slice.ensures.len) in
     let many : length made ≤ c.in_ok-bytes.bytes.len = omega (arith, c.decode_into.auto.bytes, c.as_mut_slice.ensures.len) in
-    let is : c.from_vec.result ≡ made = (rw take-append-le at c.from_vec.ensures) ∙ take_all c.in_ok-bytes.bytes.len made many in
-    (c.decode_into.ensures.digits c.if-decode_into.true ∙ ap encode_lower (sym is), subst (λ (xs : List ℕ). AreBytes xs) (sym is) c.decode_into.ensures.bytes_each)
+    let is : c.from_vec.result ≡ made = (rw take-append-le at c.from_vec.ensures) ∙ take_all c.in_ok-bytes.bytes.len made many in (
+      c.decode_into.ensures.digits c.if-decode_into.true ∙ ap encode_lower (sym is),
+      subst (λ (xs : List ℕ). AreBytes xs) (sym is) c.decode_into.ensures.bytes_each,
+    )
 
 pub returns-else-decode_into : goal.returns-else-decode_into
-returns-else-decode_into c = λ bytes are same. not_spelled c.args.digits.now bytes (c.decode_into.ensures.other c.if-decode_into.false) are same
+returns-else-decode_into c = λ bytes are same. not_spelled c.args.digits.now bytes
+    (c.decode_into.ensures.other c.if-decode_into.false) are same

@@ -23,15 +23,19 @@ returns-in-Ok-output g c =
     let output = c.in-Ok-output.output in
     elim c.match-read_run.branch [
       | in-Ok w ↦
-          run_told command _ _ _ _ w.in-Ok.run' w.taken.result output c.requires w.taken.ensures.is_run w.taken.ensures.parts w.in-Ok.ensures
-          (subst (λ (told : Result Output OutOfMemory). IfOk told (λ (o : Output). o ≡ output_of_judged command w.taken.result (verdict_for command w.taken.result.run)))
+          run_told command _ _ _ _ w.in-Ok.run' w.taken.result output c.requires w.taken.ensures.is_run w.taken.ensures.parts
+          w.in-Ok.ensures
+          (subst (λ (told : Result Output OutOfMemory). IfOk told
+          (λ (o : Output). o ≡ output_of_judged command w.taken.result (verdict_for command w.taken.result.run)))
           (sym w.output-is ∙ c.in-Ok-output.is) w.accepted_output-output.ensures)
       | in-Err-Refused w ↦
           let line = w.in-Err-Refused.line in
           let cause = w.in-Err-Refused.cause in
           line_told command _ _ _ _ line cause output c.requires
           (subst (λ (e : RecordError). ReadsRun 400000000 (g.S.Source.left c.args.source.now) (g.S.Source.left c.read_run.new.source)
-          (g.S.Source.faults c.args.source.now) (g.S.Source.faults c.read_run.new.source) (Err e)) w.in-Err-Refused.field-0-is w.in-Err-Refused.ensures)
-          (subst (λ (told : Result Output OutOfMemory). IfOk told (λ (o : Output). o ≡ output_of_refusal (record { line = line; cause = cause })))
+          (g.S.Source.faults c.args.source.now) (g.S.Source.faults c.read_run.new.source) (Err e)) w.in-Err-Refused.field-0-is
+          w.in-Err-Refused.ensures)
+          (subst (λ (told : Result Output OutOfMemory). IfOk told
+          (λ (o : Output). o ≡ output_of_refusal (record { line = line; cause = cause })))
           (sym w.output-is ∙ c.in-Ok-output.is) (rw w.in-Err-Refused.field-0-is at w.refused_output-output.ensures))
     ]

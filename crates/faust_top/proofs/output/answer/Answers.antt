@@ -18,5 +18,6 @@ returns-in-Err-Refused-clause-are_runs c =
     let command = c.args.command in
     let input = c.args.input in
     let refusal : Refusal = record { line = c.in-Err-Refused.line; cause = c.in-Err-Refused.cause } in
-    let refused = subst (λ (e : AcceptError). Accepts (Err e) (accepted command input)) c.in-Err-Refused.field-0-is c.in-Err-Refused.ensures.accepts in
+    let refused = subst (λ (e : AcceptError). Accepts (Err e) (accepted command input)) c.in-Err-Refused.field-0-is
+    c.in-Err-Refused.ensures.accepts in
     any_ok c.refused_output.result (AreRuns command input) (no_runs command input refusal refused)

@@ -7,7 +7,13 @@ loop-filled-preserved g c =
     let read = c.in_ok-given.ensures in
     let before = c.loop-filled.invariant in
     record {
-      within = omega (arith, read.bytes.fits, read.len, c.read_behind.new.buffer.ok.0, length-drop c.loop-filled.filled c.read_behind.new.buffer.items);
+      within = omega (
+        arith,
+        read.bytes.fits,
+        read.len,
+        c.read_behind.new.buffer.ok.0,
+        length-drop c.loop-filled.filled c.read_behind.new.buffer.items,
+      );
       len = read.len ∙ before.len;
       kept = read.count ∙ before.kept;
       front = Consumes-more _ _ _ c.loop-filled.buffer.items c.read_behind.new.buffer.items c.loop-filled.filled c.in_ok-given.given

@@ -22,7 +22,8 @@ returns-in-Err-TooLong g c =
     let command = c.in-Some.command in
     too_long_answered _ _ command c.written-in-Err-TooLong.result (command_form _ command (sym c.in-Some.ensures))
     (subst (λ (e : ReadError). AnswersInput command (g.S.Source.left c.args.source.now) (g.S.Source.left c.answer_to.new.source)
-    (g.S.Source.faults c.args.source.now) (g.S.Source.faults c.answer_to.new.source) (Err e)) c.in-Err-TooLong.field-0-is c.in-Err-TooLong.ensures)
+    (g.S.Source.faults c.args.source.now) (g.S.Source.faults c.answer_to.new.source) (Err e)) c.in-Err-TooLong.field-0-is
+    c.in-Err-TooLong.ensures)
     c.written-in-Err-TooLong.ensures
 
 pub returns-in-Err-Failed : goal.returns-in-Err-Failed
@@ -30,15 +31,18 @@ returns-in-Err-Failed g c =
     let command = c.in-Some.command in
     fault_answered _ _ command (command_form _ command (sym c.in-Some.ensures))
     (subst (λ (e : ReadError). AnswersInput command (g.S.Source.left c.args.source.now) (g.S.Source.left c.answer_to.new.source)
-    (g.S.Source.faults c.args.source.now) (g.S.Source.faults c.answer_to.new.source) (Err e)) c.in-Err-Failed.field-0-is c.in-Err-Failed.ensures)
+    (g.S.Source.faults c.args.source.now) (g.S.Source.faults c.answer_to.new.source) (Err e)) c.in-Err-Failed.field-0-is
+    c.in-Err-Failed.ensures)
     (record { held = refl; writes_kept = refl })
 
 pub returns-in-Err-OutOfMemory : goal.returns-in-Err-OutOfMemory
 returns-in-Err-OutOfMemory g c =
     let command = c.in-Some.command in
     let read = subst (λ (e : ReadError). AnswersInput command (g.S.Source.left c.args.source.now) (g.S.Source.left c.answer_to.new.source)
-    (g.S.Source.faults c.args.source.now) (g.S.Source.faults c.answer_to.new.source) (Err e)) c.in-Err-OutOfMemory.field-0-is c.in-Err-OutOfMemory.ensures in
-    no_memory_answered _ _ command (command_form _ command (sym c.in-Some.ensures)) read.0 read.1 (record { held = refl; writes_kept = refl })
+    (g.S.Source.faults c.args.source.now) (g.S.Source.faults c.answer_to.new.source) (Err e)) c.in-Err-OutOfMemory.field-0-is
+    c.in-Err-OutOfMemory.ensures in
+    no_memory_answered _ _ command (command_form _ command (sym c.in-Some.ensures)) read.0 read.1
+    (record { held = refl; writes_kept = refl })
 
 pub returns-in-Ok : goal.returns-in-Ok
 returns-in-Ok g c =
@@ -46,8 +50,10 @@ returns-in-Ok g c =
     let output = c.in-Ok.output in
     let answered = c.in-Ok.ensures in
     let result = c.written-in-Ok.result in
-    let written = subst (λ (text : List ℕ). EndsWriting output.status text (g.K.Sink.held c.args.sink.now) (g.K.Sink.held c.written-in-Ok.new.sink)
+    let written = subst (λ (text : List ℕ). EndsWriting output.status text (g.K.Sink.held c.args.sink.now)
+    (g.K.Sink.held c.written-in-Ok.new.sink)
     (g.K.Sink.faults c.args.sink.now) (g.K.Sink.faults c.written-in-Ok.new.sink) result)
     c.as_slice.ensures c.written-in-Ok.ensures in
-    text_answered _ _ command answered.input output result (command_form _ command (sym c.in-Some.ensures)) answered.input_read answered.are_runs
+    text_answered _ _ command answered.input output result
+    (command_form _ command (sym c.in-Some.ensures)) answered.input_read answered.are_runs
     answered.output_is written

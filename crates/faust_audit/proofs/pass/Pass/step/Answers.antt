@@ -20,7 +20,8 @@ returns c = λ before rest run at.
     let within : c.from.result - 1 < length items =
     omega (arith, c.requires.counted, c.requires.client.from_one, c.requires.client.to_n, c.from.ensures) in
     let watched_is : watched ≡ watched_in items e.client =
-    get_or_read items (c.from.result - 1) watched within c.index_mut-watched.ensures.value no_watched ∙ ap (watched_in items) c.from.ensures in (
+    get_or_read items (c.from.result - 1) watched within c.index_mut-watched.ensures.value no_watched
+    ∙ ap (watched_in items) c.from.ensures in (
       step-forged config before e c.args.key.now c.in_ok-checked.checked None c.requires.key c.in_ok-checked.ensures
           (sym none ∙ c.in_ok-body.ensures (made_behind config [] before) at.made),
       step-next config before rest e c.args.self.now _ watched c.note.new.watched c.in_ok-reply.reply c.args.key.now run at watched_is

@@ -32,6 +32,7 @@ loop-at-preserved g c =
       | in-Some+in_default-first w ↦
           c.loop-at.invariant
           ∙ posts-silent entries at (at + 1) w.in-Some.entry.now (sym w.in-Some.ensures.entry)
-          (sym w.to_peers-posts.ensures ∙ none-first w.to_peers-posts.result.now (sym w.first.ensures.value ∙ ap option_copied w.in_default-first.is)) refl
+          (sym w.to_peers-posts.ensures ∙ none-first w.to_peers-posts.result.now (sym w.first.ensures.value
+          ∙ ap option_copied w.in_default-first.is)) refl
       | in_default w ↦ absurd (stands-within entries at inside (sym w.in_default.ensures.entry))
     ]

@@ -20,7 +20,8 @@ returns-in-Ok g c =
     let stepped = c.in-Ok.ensures in
     record {
       stepped = stepped;
-      waiting = log-waits n old c.step.new.self.log stepped.number c.args.input op n_is c.requires.asked c.requires.may stepped.logged op_is;
+      waiting = log-waits n old c.step.new.self.log stepped.number c.args.input op n_is c.requires.asked c.requires.may
+          stepped.logged op_is;
       asked = asked-kind old.log.me (held_by old.log) c.args.input op op_is;
     }
 

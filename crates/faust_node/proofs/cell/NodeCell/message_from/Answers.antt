@@ -30,6 +30,7 @@ loop-place-preserved g c =
     elim c.match-entry.branch [
       | in-Some+in_default-to_server w ↦
           c.loop-place.invariant
-          ∙ sent-silent entries place (place + 1) w.in-Some.entry.now (sym w.in-Some.ensures.entry) (sym w.to_server.ensures ∙ ap option_copied w.in_default-to_server.is) refl
+          ∙ sent-silent entries place (place + 1) w.in-Some.entry.now (sym w.in-Some.ensures.entry) (sym w.to_server.ensures
+          ∙ ap option_copied w.in_default-to_server.is) refl
       | in_default w ↦ absurd (stands-within entries place inside (sym w.in_default.ensures.entry))
     ]

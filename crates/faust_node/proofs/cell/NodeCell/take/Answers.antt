@@ -7,7 +7,8 @@ use Rattle.faust_node.proofs.cell.NodeCell.take.Goals as goal
 pub returns-in_default-error : goal.returns-in_default-error
 returns-in_default-error g c =
     let old : Cell = c.args.self.now in
-    let refused = outside-refused c.in-Err.error old c.step.new.self c.args.input c.in_default-error.not-OutOfMemory c.requires c.in-Err.ensures in
+    let refused = outside-refused c.in-Err.error old c.step.new.self c.args.input c.in_default-error.not-OutOfMemory c.requires
+    c.in-Err.ensures in
     record {
       was_open = stop-open (held_by old.log).notice old.closed (sym c.in_default.ensures);
       full = refused.full;
