@@ -1,6 +1,6 @@
 -- What becomes of the counts of links and of the net.
-use Rattle.std.proofs.Common.{◌≡◌, ◌≢◌, ℕ, zero, suc, ◌+◌, ◌-◌, ◌^◌, ◌<◌, ◌≤◌, min, Option, Some, None, Result, Ok, Err, ◌⊎◌, inl, inr, refl, sym, ap, subst, ◌∙◌, arith}
-use Rattle.faust_io.specs.Faults.{CountsFault, Rose}
+use Rattle.std.proofs.Common.{◌≡◌, ◌≢◌, ℕ, zero, suc, ◌+◌, ◌-◌, ◌<◌, ◌≤◌, Option, Some, None, Result, Ok, Err, ◌⊎◌, inl, inr, refl, sym, ap, subst, ◌∙◌, arith}
+use Rattle.faust_io.specs.Faults.{CountsFault}
 use Rattle.faust_types.specs.declared.arrival.Closing.{Closing}
 use Rattle.faust_types.specs.declared.arrival.Closing.TheVariants as closings
 use Rattle.faust_link.specs.Counts.{CountsBack}

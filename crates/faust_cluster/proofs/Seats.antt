@@ -1,6 +1,5 @@
 -- Seats that are split off and taken back.
-use Rattle.std.proofs.Common.{◌≡◌, ◌≢◌, ℕ, zero, suc, ◌+◌, ◌-◌, ◌*◌, ◌^◌, ◌<◌, ◌≤◌, List, [], ◌∷◌, ◌++◌, cond, eqb, ltb, length, map, Option, None, Some, refl, sym, ap, subst, ◌∙◌, arith, append-nil}
-use Rattle.std.specs.List.{flat_map}
+use Rattle.std.proofs.Common.{◌≡◌, ◌≢◌, ℕ, ◌+◌, ◌-◌, ◌*◌, ◌^◌, ◌≤◌, List, [], ◌∷◌, ◌++◌, cond, eqb, length, map, Option, Some, refl, sym, ap, subst, ◌∙◌, arith, append-nil}
 use Rattle.std.proofs.lemmas.Grind.{flat_map-append}
 use Rattle.std.proofs.lemmas.List.{map-append}
 use Rattle.faust_types.specs.declared.arrival.Arrival.{Arrival}
@@ -10,7 +9,7 @@ use Rattle.faust_types.specs.declared.config.Config.{Config}
 use Rattle.faust_ticket.specs.Holders.{RootView, SeatView, after_join, after_split, first_root}
 use Rattle.faust_ticket.specs.Numbers as tickets
 use Rattle.faust_record.specs.Journals.{AreJournals, IsJournal, Log}
-use Rattle.faust_record.specs.Merging.{AreEachBelow, AreOfConfig, HoldsEachBelow, entry_of, gathered, logged_in, numbers_of, once_below, times}
+use Rattle.faust_record.specs.Merging.{AreEachBelow, AreOfConfig, entry_of, gathered, logged_in, numbers_of, times}
 use Rattle.faust_record.specs.declared.entry.Entry.{Entry}
 use Rattle.faust_node.specs.Cells.{Cell, HasNumbers, IsCell}
 use Rattle.faust_host.specs.Arriving as hosts

@@ -1,5 +1,5 @@
 -- One more arrival: the replay goes on with it, and a log keeps what it keeps.
-use Rattle.std.proofs.Common.{◌≡◌, ℕ, ◌+◌, ◌-◌, ◌*◌, ◌^◌, ◌<◌, ◌≤◌, zero, suc, List, [], ◌∷◌, ◌++◌, length, map, slice_index, slice_set, Option, Some, None, Result, Ok, Err, false, refl, sym, ap, ◌∙◌, subst, inl, inr, arith, length-append}
+use Rattle.std.proofs.Common.{◌≡◌, ℕ, ◌+◌, ◌-◌, ◌*◌, ◌<◌, ◌≤◌, List, [], ◌∷◌, ◌++◌, length, slice_index, slice_set, Option, Some, Ok, false, refl, sym, ap, ◌∙◌, subst, inl, inr, arith, length-append}
 use Rattle.std.proofs.lemmas.List.{map-append, get_or-set_other, length-set}
 use Rattle.std.proofs.lemmas.Grind.{get_or-set_at}
 use Rattle.std.proofs.lemmas.Bool.{cases_eq, leb-false}
@@ -10,7 +10,7 @@ use Rattle.faust_ticket.specs.Holders.{SeatView, after_draw}
 use Rattle.faust_server.specs.Rows.{State, first_state}
 use Rattle.faust_host.specs.declared.request.Request.{Request}
 use Rattle.faust_host.specs.Requests.{Deed, deed, request_in}
-use Rattle.faust_host.specs.Arriving.{AreNumbered, after_arrival, arrivals_of, numbers_of, replay, replayed, state_after, state_of}
+use Rattle.faust_host.specs.Arriving.{AreNumbered, after_arrival, arrivals_of, replay, replayed, state_after, state_of}
 use Rattle.faust_host.specs.Cells.{is_full}
 use Rattle.faust_host.specs.Logs.{Log, IsCounted}
 use Rattle.faust_host.proofs.Counting.{arrivals_of-push_own, arrivals_of-push_other, length-bound}

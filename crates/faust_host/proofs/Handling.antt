@@ -1,5 +1,5 @@
 -- What is due to bytes of a client, step by step as the cell finds it.
-use Rattle.std.proofs.Common.{◌≡◌, ℕ, Bool, true, false, replicate, length, List, [], ◌∷◌, ◌++◌, Option, Some, None, Result, Ok, Err, IfSome, if◌then◌else◌, refl, sym, ap, ◌∙◌, subst}
+use Rattle.std.proofs.Common.{◌≡◌, ℕ, Bool, true, false, replicate, length, List, [], ◌∷◌, ◌++◌, Option, Some, None, Result, Ok, Err, IfSome, if◌then◌else◌, sym, ap, ◌∙◌, subst}
 use Rattle.std.proofs.lemmas.List.{length-replicate}
 use Rattle.faust_types.specs.Clients.{IsClientCount}
 use Rattle.faust_types.specs.declared.arrival.Arrival.{Arrival}

@@ -1,10 +1,10 @@
 -- The causes that a cell gives are due, but for want of memory.
-use Rattle.std.proofs.Common.{◌≡◌, ℕ, ◌⊎◌, false, true, List, Option, Some, None, Result, Ok, Err, sym, ap, ◌∙◌, inl, inr}
+use Rattle.std.proofs.Common.{◌≡◌, ℕ, ◌⊎◌, false, List, Some, None, Result, Err, sym, ap, ◌∙◌, inl, inr}
 use Rattle.faust_types.specs.declared.arrival.Closing.{Closing}
 use Rattle.faust_types.specs.declared.arrival.Closing.TheVariants as closings
 use Rattle.faust_host.specs.declared.request.Request.{Request}
 use Rattle.faust_host.specs.Requests.{Deed, deed, request_in}
-use Rattle.faust_host.specs.Cells.{Cell, Refuses, deed_or_turn, due, is_full}
+use Rattle.faust_host.specs.Cells.{Cell, deed_or_turn, due, is_full}
 use Rattle.faust_host.proofs.Handling.{due_malformed, due_turn}
 
 abbrev failed : Closing → Result Deed Closing

@@ -1,11 +1,10 @@
 -- One round of serving a connection, from what its calls answered.
-use Rattle.std.proofs.Common.{◌≡◌, ℕ, ◌⊎◌, List, [], ◌∷◌, Option, Some, None, Result, Ok, Err, IsNone, refl, sym, ap, ◌∙◌, subst, inl, inr}
-use Rattle.faust_io.specs.Faults.{CountsFault}
+use Rattle.std.proofs.Common.{◌≡◌, ℕ, ◌⊎◌, List, Some, None, Ok, Err, sym, subst, inl, inr}
 use Rattle.faust_types.specs.declared.arrival.Closing.{Closing}
 use Rattle.faust_types.specs.declared.arrival.Closing.TheVariants as closings
-use Rattle.faust_host.specs.Requests.{client_in, request_in}
+use Rattle.faust_host.specs.Requests.{client_in}
 use Rattle.faust_host.specs.Connections.{Ends, Inlet, IsRequest}
-use Rattle.faust_host.specs.Rounds.{GreetedBy, Greets, Rounds, SendStopped, TakesOne, TellsOf, TookOne}
+use Rattle.faust_host.specs.Rounds.{Greets, Rounds, SendStopped, TakesOne, TellsOf, TookOne}
 
 -- no first frame was taken
 pub greets_untaken : (n : ℕ) (a b : Inlet) (frame : List ℕ) (closing : Closing) → TakesOne (Err closing) a b frame

@@ -1,5 +1,5 @@
 -- A reply in range can be sent as one frame.
-use Rattle.std.proofs.Common.{◌≡◌, ℕ, ◌+◌, ◌≤◌, List, [], ◌∷◌, ◌++◌, length, arith}
+use Rattle.std.proofs.Common.{ℕ, ◌≤◌, length, arith}
 use Rattle.faust_types.specs.Clients.{IsClientCount}
 use Rattle.faust_types.specs.Ranges.{IsReplyFor}
 use Rattle.faust_types.specs.declared.message.Reply.{Reply}

@@ -1,13 +1,12 @@
 -- Why a connection stopped, from the pieces of which serving it is made.
-use Rattle.std.proofs.Common.{◌≡◌, ℕ, List, [], ◌∷◌, ◌++◌, Option, Some, None, Ok, Err, IfSome, IsSome, IsNone, refl, sym, ap, ◌∙◌, subst, inl, inr}
-use Rattle.std.specs.List.{AllByRecursion}
+use Rattle.std.proofs.Common.{◌≡◌, ℕ, List, [], ◌∷◌, ◌++◌, Option, Some, None, Err, IfSome, IsSome, IsNone, refl, sym, ◌∙◌, subst, inl, inr}
 use Rattle.std.specs.Io.KnownBytes.{Consumes, IsAtEnd, Keeps}
 use Rattle.faust_io.specs.Faults.{CountsFault}
 use Rattle.faust_types.specs.declared.arrival.Closing.{Closing}
 use Rattle.faust_types.specs.declared.arrival.Closing.TheVariants as closings
-use Rattle.faust_host.specs.Requests.{client_in, request_in}
-use Rattle.faust_host.specs.Connections.{AreInPlace, Ends, EndsWithRequest, Inlet, IsAtEndIfTold, IsFaultless, IsQuiet, IsRequest, StoppedBy, Took}
-use Rattle.faust_host.specs.Rounds.{Answered, AnsweredSome, EndedRound, FoundEnd, GreetedBy, Greets, RequestRound, Rounds, StopsBehind, TookOne, TookRound}
+use Rattle.faust_host.specs.Requests.{client_in}
+use Rattle.faust_host.specs.Connections.{AreInPlace, Ends, EndsWithRequest, IsFaultless, IsQuiet, IsRequest, StoppedBy, Took}
+use Rattle.faust_host.specs.Rounds.{Answered, AnsweredSome, FoundEnd, GreetedBy, Greets, RequestRound, Rounds, StopsBehind, TookOne}
 use Rattle.faust_host.proofs.Growing.{all_snoc}
 use Rattle.faust_host.proofs.Taking.{took-none, takes_none, takes_one, takes_more, takes_behind, takes_kept}
 

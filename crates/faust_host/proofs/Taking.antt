@@ -3,9 +3,8 @@ use Rattle.std.proofs.Common.{◌≡◌, ℕ, List, [], ◌∷◌, ◌++◌, Opt
 use Rattle.std.proofs.KnownBytes.{Consumes-trans}
 use Rattle.std.specs.Io.KnownBytes.{Consumes, Keeps}
 use Rattle.faust_link.specs.Frames.{IsFrame, AreFrames, spelling_of, stream_of}
-use Rattle.faust_link.specs.Links.{TakesFrame}
 use Rattle.faust_host.specs.Connections.{Inlet, Took}
-use Rattle.faust_host.specs.Rounds.{TookOne, FoundEnd}
+use Rattle.faust_host.specs.Rounds.{TookOne}
 
 are_frames-snoc : (fs : List (List ℕ)) (f : List ℕ) → AreFrames fs → IsFrame f → AreFrames (fs ++ f ∷ [])
 are_frames-snoc [] f each frame = (frame, tt)

@@ -1,12 +1,12 @@
 -- What the answer of a cell tells of the bytes that it was given.
-use Rattle.std.proofs.Common.{◌≡◌, ℕ, Bool, true, false, List, [], ◌∷◌, Option, Some, None, Result, Ok, Err, IsSome, IsNone, if◌then◌else◌, refl, sym, ap, ◌∙◌, subst, inl, inr}
+use Rattle.std.proofs.Common.{◌≡◌, ℕ, Bool, true, false, List, Option, Some, None, Result, Ok, Err, IsSome, IsNone, if◌then◌else◌, refl, sym, subst, inl, inr}
 use Rattle.faust_types.specs.declared.arrival.Closing.{Closing}
 use Rattle.faust_types.specs.declared.arrival.Closing.TheVariants as closings
 use Rattle.faust_server.specs.declared.refusal.OutOfTurn.{OutOfTurn}
 use Rattle.faust_host.specs.declared.request.Request.{Request}
 use Rattle.faust_host.specs.Requests.{Deed, deed, request_in}
 use Rattle.faust_host.specs.Connections.{IsRequest}
-use Rattle.faust_host.specs.Cells.{Accepts, Cell, Handles, Refuses, deed_or_turn, due_to, is_full}
+use Rattle.faust_host.specs.Cells.{Cell, Handles, Refuses, deed_or_turn, due_to, is_full}
 use Rattle.faust_host.specs.Rounds.{TellsOf}
 
 -- bytes that ask something are a request

@@ -20,7 +20,7 @@ use Rattle.faust_lists.proofs.Tails.{AreClients-tail, count-tail, tail-cons, tai
 use Rattle.faust_forks.specs.Answers as forks
 use Rattle.faust_forks.specs.Books.{Begun}
 use Rattle.faust_names.specs.ForkViews.{listed}
-use Rattle.faust_names.specs.Histories.{History, IsCompleted, Precedes, named}
+use Rattle.faust_names.specs.Histories.{History, Precedes, named}
 use Rattle.faust_names.specs.Histories as seen
 use Rattle.faust_names.specs.Views.{IsAnsweredAfter, IsBefore, IsPrefix, held_after, held_by, last_written}
 use Rattle.faust_names.proofs.Listed.{IsListedAt, IsPlaced, kept-listed, listed-dropped, listed-kept, listed_at, older-before, placed, sift-listed}

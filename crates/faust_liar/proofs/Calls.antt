@@ -1,24 +1,21 @@
 -- What the code of each call reads is what its row reads, and what it writes keeps what every state keeps.
-use Rattle.std.proofs.Common.{◌≡◌, ℕ, ◌+◌, ◌-◌, ◌<◌, ◌≤◌, Bool, true, false, if◌then◌else◌, Option, Some, None, List, [], ◌∷◌, ◌++◌, length, Result, Ok, Err, OnOk, OnErr, IfSome, option_map, slice_set, slice_index_or, slice_get, nat_lt, refl, sym, ap, ◌∙◌, subst, arith}
+use Rattle.std.proofs.Common.{◌≡◌, ℕ, ◌+◌, ◌-◌, ◌<◌, Bool, true, false, if◌then◌else◌, Option, Some, None, List, [], ◌∷◌, ◌++◌, length, Result, Ok, Err, OnOk, OnErr, IfSome, slice_set, slice_index_or, refl, sym, ap, ◌∙◌, subst, arith}
 use Rattle.std.proofs.lemmas.Bool.{cond-true, lt-ltb}
 use Rattle.std.proofs.lemmas.List.{get_or_default, length-set}
-use Rattle.std.proofs.lemmas.Option.{none-some, same_Some, slice_get_within}
+use Rattle.std.proofs.lemmas.Option.{same_Some, slice_get_within}
 use Rattle.faust_types.specs.Clients.{IsClientCount, IsClient}
 use Rattle.faust_types.specs.Ranges.{IsWire}
 use Rattle.faust_types.specs.declared.message.Reply.{Reply}
 use Rattle.faust_types.specs.declared.message.Message.{Message}
-use Rattle.faust_wire.specs.Grammar.{spelling}
 use Rattle.faust_wire.specs.Reading.{message_of}
 use Rattle.faust_wire.proofs.Messages.{message_only}
 use Rattle.faust_server.specs.Rows.{State, client_count, first_state}
 use Rattle.faust_server.specs.States.{IsStateFor, IsState}
 use Rattle.faust_server.proofs.Kept.{IsState-for}
 use Rattle.faust_liar.specs.Branches.{Handled, handled}
-use Rattle.faust_liar.specs.InRange.{IsArrival, IsForServer, IsAnswer, IsReplyIfAny, IsSessionFor, IsLiarStateFor, IsLiarState}
-use Rattle.faust_liar.specs.Lies.{LiarState, first_session, session_at, with_session, with_branch, session_count, branch_at, is_branch, one_taken, received, nth, next_of, echoed, echoed_message, again_due, handed_again, Hands}
-use Rattle.faust_liar.specs.Sessions.{Repeats}
+use Rattle.faust_liar.specs.InRange.{IsArrival, IsForServer, IsAnswer, IsSessionFor, IsLiarState}
+use Rattle.faust_liar.specs.Lies.{LiarState, first_session, session_at, with_session, with_branch, session_count, branch_at, one_taken, received, nth, next_of, echoed, echoed_message}
 use Rattle.faust_liar.specs.Spelled.{IsSpelled}
-use Rattle.faust_liar.specs.declared.error.LiarError.{LiarError}
 use Rattle.faust_liar.specs.declared.error.LiarError.TheVariants as errors
 use Rattle.faust_liar.specs.declared.session.Session.{Session}
 use Rattle.faust_liar.proofs.Spelled.{spelled-by}

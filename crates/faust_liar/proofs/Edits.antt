@@ -1,5 +1,5 @@
 -- What the code of an edit makes is what the table says.
-use Rattle.std.proofs.Common.{◌≡◌, ℕ, ◌+◌, ◌^◌, ◌<◌, ◌≤◌, Option, Some, None, List, [], ◌∷◌, ◌++◌, length, replicate, take, suc, nat_lt, if◌then◌else◌, true, sym, ap, ◌∙◌, slice_index_or, arith, add-one}
+use Rattle.std.proofs.Common.{◌≡◌, ℕ, ◌+◌, ◌^◌, ◌<◌, Option, Some, List, [], ◌∷◌, ◌++◌, length, replicate, take, nat_lt, true, sym, ap, ◌∙◌, slice_index_or, arith, add-one}
 use Rattle.std.proofs.lemmas.Bool.{cond-true, lt-ltb}
 use Rattle.std.proofs.Math.Seq.{take-suc}
 use Rattle.faust_types.specs.Messages.{tuples_by}

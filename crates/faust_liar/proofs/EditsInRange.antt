@@ -1,5 +1,5 @@
 -- What an edit makes of a reply in range is in range, so that it has a spelling.
-use Rattle.std.proofs.Common.{◌≡◌, ℕ, ◌+◌, ◌-◌, ◌^◌, ◌<◌, ◌≤◌, ◌==◌, Bool, true, false, if◌then◌else◌, Option, Some, None, IsNone, IfSome, List, [], ◌∷◌, ◌++◌, length, take, drop, suc, replicate, option_map, slice_get, slice_index, slice_index_or, slice_set, nat_lt, bit_xor, refl, sym, ap, ◌∙◌, subst, inl, inr, arith, length-append}
+use Rattle.std.proofs.Common.{◌≡◌, ℕ, ◌+◌, ◌-◌, ◌^◌, ◌<◌, ◌≤◌, ◌==◌, Bool, true, false, if◌then◌else◌, Option, Some, None, IsNone, IfSome, List, [], ◌∷◌, ◌++◌, length, take, drop, suc, replicate, option_map, slice_index, slice_index_or, slice_set, nat_lt, bit_xor, refl, sym, ap, ◌∙◌, subst, inl, inr, arith, length-append}
 use Rattle.std.proofs.lemmas.Bool.{cases_Bool, cases_eq, true≢false, eq-eqb, ltb-true, false_from_ne_true}
 use Rattle.std.proofs.lemmas.List.{length-set, set-get_or, get_or-set_other}
 use Rattle.std.proofs.lemmas.Grind.{get_or-set_at}
@@ -28,7 +28,7 @@ use Rattle.faust_server.proofs.Tuples.{All-push}
 use Rattle.faust_script.specs.InRange.{IsEditFor}
 use Rattle.faust_script.specs.declared.edit.Edit.{Edit}
 use Rattle.faust_script.specs.declared.edit.Edit.TheVariants as edits
-use Rattle.faust_liar.specs.Edits.{flipped, made_by, retimed, redigested, redigested_to, retagged, added, tuple_at, dropped, swapped, tag_flipped, proof_of, proof_flipped, proof_removed, mem_at, mem_with, mem_retagged, version_changed, version_changed_in, mem_changed, mem_changed_in, without_read, tuple_by, edited_reply, signed_anew, stored_anew, submitted_tag, version_signed, part_signed, part_stored, read_signed, read_stored, next_number, add_forged, forged_reply, lied_reply}
+use Rattle.faust_liar.specs.Edits.{flipped, made_by, retimed, redigested, redigested_to, retagged, added, tuple_at, dropped, swapped, tag_flipped, proof_of, proof_flipped, proof_removed, mem_at, mem_with, mem_retagged, version_changed, mem_changed, mem_changed_in, without_read, tuple_by, edited_reply, signed_anew, stored_anew, submitted_tag, version_signed, part_signed, part_stored, read_signed, read_stored, next_number, add_forged, forged_reply, lied_reply}
 
 -- ---- options
 

@@ -1,25 +1,25 @@
 -- Each call keeps what every state of the liar keeps.
-use Rattle.std.proofs.Common.{◌≡◌, ℕ, ◌+◌, ◌-◌, ◌<◌, ◌≤◌, ◌==◌, true, false, if◌then◌else◌, Option, Some, None, List, [], ◌∷◌, ◌++◌, length, Result, Ok, Err, IfOk, IfSome, slice_set, slice_index_or, slice_get, replicate, nat_lt, refl, sym, ap, ◌∙◌, subst, inl, inr, arith, length-append}
+use Rattle.std.proofs.Common.{◌≡◌, ℕ, ◌+◌, ◌-◌, ◌<◌, ◌≤◌, ◌==◌, true, false, if◌then◌else◌, Option, Some, None, List, [], ◌∷◌, ◌++◌, length, Result, IfOk, IfSome, slice_set, slice_index_or, slice_get, sym, ◌∙◌, subst, arith, length-append}
 use Rattle.std.proofs.lemmas.List.{append-nil, length-set, length-replicate, get_or-replicate}
 use Rattle.std.proofs.lemmas.List.Elements.{All-from_recursion}
 use Rattle.std.proofs.lemmas.Option.{none-some, slice_get_within, get_or_from_slice_get}
 use Rattle.std.specs.List.{AllByRecursion}
 use Rattle.faust_types.specs.Clients.{IsClientCount, IsClient}
-use Rattle.faust_types.specs.Ranges.{IsWire, IsSubmitFor, IsCommitFor, IsReplyFor}
+use Rattle.faust_types.specs.Ranges.{IsWire, IsSubmitFor, IsCommitFor}
 use Rattle.faust_types.specs.declared.message.Submit.{Submit}
 use Rattle.faust_types.specs.declared.message.Commit.{Commit}
 use Rattle.faust_types.specs.declared.message.Reply.{Reply}
 use Rattle.faust_types.specs.declared.message.Message.{Message}
 use Rattle.faust_types.specs.declared.message.Message.TheVariants as messages
-use Rattle.faust_server.specs.Rows.{State, Served, client_count, first_state, committed, submitted}
+use Rattle.faust_server.specs.Rows.{State, Served}
 use Rattle.faust_server.specs.declared.refusal.OutOfTurn.{OutOfTurn}
-use Rattle.faust_server.specs.States.{IsStateFor, IsState, IsServedFor}
-use Rattle.faust_server.proofs.Kept.{each-set, All-slice_set, IsStateFor-first, IsStateFor-retaken, IsStateFor-settled, IsState-for}
+use Rattle.faust_server.specs.States.{IsStateFor, IsServedFor}
+use Rattle.faust_server.proofs.Kept.{each-set, All-slice_set, IsStateFor-first, IsStateFor-retaken, IsStateFor-settled}
 use Rattle.faust_server.proofs.Rows.{IsStateFor-advanced, submitted-in_range}
 use Rattle.faust_server.proofs.Tuples.{All-push}
-use Rattle.faust_liar.specs.Branches.{Handled, uncommitted_at, turn_set, after_commit, before_submit, answered, handled}
+use Rattle.faust_liar.specs.Branches.{uncommitted_at, turn_set, after_commit, answered, handled}
 use Rattle.faust_liar.specs.InRange.{IsBehind, IsForServer, IsAnswer, IsReplyIfAny, IsSessionFor, IsLiarStateFor, IsLiarState}
-use Rattle.faust_liar.specs.Lies.{LiarState, first_session, first_lies, session_at, with_session, with_branch, session_count, branch_at, queued, received, nth}
+use Rattle.faust_liar.specs.Lies.{LiarState, first_session, first_lies, session_at, with_session, with_branch, queued, received, nth}
 use Rattle.faust_liar.specs.declared.session.Session.{Session}
 use Rattle.faust_liar.proofs.Turns.{timestamp-below, submit-due}
 

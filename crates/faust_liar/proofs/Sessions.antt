@@ -6,7 +6,7 @@ use Rattle.std.specs.Slice.{IsItemAt}
 use Rattle.faust_types.specs.declared.message.Reply.{Reply}
 use Rattle.faust_types.specs.declared.message.Message.{Message}
 use Rattle.faust_server.specs.Rows.{State}
-use Rattle.faust_liar.specs.Branches.{Handled, handled}
+use Rattle.faust_liar.specs.Branches.{handled}
 use Rattle.faust_liar.specs.Lies.{next_of, nth, queued, received}
 use Rattle.faust_liar.specs.declared.session.Session.{Session}
 

@@ -1,5 +1,5 @@
 -- A message that is kept as its bytes is the one that they spell.
-use Rattle.std.proofs.Common.{◌≡◌, ℕ, List, Option, sym, ap, subst, ◌∙◌}
+use Rattle.std.proofs.Common.{◌≡◌, ℕ, List, Option, sym, ap, subst}
 use Rattle.faust_types.specs.Clients.{IsClientCount}
 use Rattle.faust_types.specs.Ranges.{IsWire, IsMessageFor}
 use Rattle.faust_types.specs.declared.message.Message.{Message}

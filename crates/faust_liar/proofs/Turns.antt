@@ -1,18 +1,18 @@
 -- Setting the turn of a client to what its message needs: then the message is in turn; and where it was in turn
 -- before, nothing changes.
-use Rattle.std.proofs.Common.{◌≡◌, ◌≢◌, ℕ, ◌+◌, ◌-◌, ◌^◌, ◌<◌, ◌⊎◌, Bool, true, false, Option, Some, None, List, length, Result, Ok, Err, IfSome, slice_set, refl, sym, ap, ◌∙◌, subst, inl, inr, arith}
+use Rattle.std.proofs.Common.{◌≡◌, ℕ, ◌+◌, ◌-◌, ◌^◌, ◌<◌, Bool, true, false, Option, Some, None, List, Result, Ok, Err, IfSome, slice_set, refl, sym, ap, ◌∙◌, inl, inr, arith}
 use Rattle.std.proofs.lemmas.Bool.{cases_eq, cases_Bool}
 use Rattle.std.proofs.lemmas.List.{get_or-set_same, set-get_or}
 use Rattle.faust_types.specs.Clients.{IsClient}
 use Rattle.faust_types.specs.Versions.{timestamp_at}
-use Rattle.faust_types.specs.Ranges.{IsSubmitFor, IsCommitFor, IsVersionFor}
+use Rattle.faust_types.specs.Ranges.{IsSubmitFor, IsCommitFor}
 use Rattle.faust_types.specs.declared.message.Tuple.{Tuple}
 use Rattle.faust_types.specs.declared.message.Submit.{Submit}
 use Rattle.faust_types.specs.declared.message.Reply.{Reply}
 use Rattle.faust_types.specs.declared.message.Commit.{Commit}
 use Rattle.faust_server.specs.declared.turn.Turn.{Turn}
 use Rattle.faust_server.specs.declared.refusal.OutOfTurn.{OutOfTurn}
-use Rattle.faust_server.specs.Rows.{State, Served, client_count, first_turn, turn_at, advanced, settled, committed, served, submitted, retaken}
+use Rattle.faust_server.specs.Rows.{State, Served, client_count, first_turn, turn_at, committed, served, submitted, retaken}
 use Rattle.faust_server.specs.States.{IsStateFor, IsState}
 use Rattle.faust_server.proofs.Kept.{IsStateFor-retaken, none_pending}
 use Rattle.faust_server.proofs.Rows.{committed-taken, committed-refused, alone-taken, alone-refused, riding-taken, riding-refused}

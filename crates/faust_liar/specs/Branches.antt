@@ -1,6 +1,6 @@
 -- What a branch of the lying server does with a message: the rows of the honest server, but never out of turn. Each
 -- promise on `arrive` and `echo` rests on this file.
-use Rattle.std.specs.Prelude.{◌≡◌, ℕ, ◌+◌, ◌-◌, true, false, Option, Some, None}
+use Rattle.std.specs.Prelude.{ℕ, ◌-◌, true, false, Option, Some, None}
 use Rattle.faust_types.specs.Versions.{timestamp_at}
 use Rattle.faust_types.specs.declared.message.Submit.{Submit}
 use Rattle.faust_types.specs.declared.message.Reply.{Reply}

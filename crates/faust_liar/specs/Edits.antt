@@ -1,6 +1,6 @@
 -- The table of edits, in its order: what each edit makes of a reply, and None where it can't be made; then the same
 -- of a forged edit. The promise on `Liar::edited` rests on this file.
-use Rattle.std.specs.Prelude.{◌≡◌, ℕ, ◌+◌, ◌-◌, ◌^◌, ◌==◌, Bool, true, false, if◌then◌else◌, List, [], ◌∷◌, ◌++◌, length, replicate, Option, Some, None, IsNone, IsSome, Result, Ok, Err, option_map, slice_get, slice_index, slice_index_or, slice_set, nat_lt, bit_xor}
+use Rattle.std.specs.Prelude.{◌≡◌, ℕ, ◌+◌, ◌-◌, ◌^◌, ◌==◌, if◌then◌else◌, List, [], ◌∷◌, ◌++◌, length, replicate, Option, Some, None, IsNone, IsSome, Result, Ok, Err, option_map, slice_get, slice_index, slice_index_or, slice_set, nat_lt, bit_xor}
 use Rattle.std.specs.List.{remove, swap}
 use Rattle.faust_hash.specs.Chain.{value_digest_of}
 use Rattle.faust_types.specs.Messages.{tuples_by}

@@ -1,6 +1,6 @@
 -- The lying server: its state, and what each call makes of it. Each promise of the crate rests on this file; the
 -- branches' rows stand in `Branches`, the edits of replies in `Edits`.
-use Rattle.std.specs.Prelude.{◌≡◌, ℕ, ◌+◌, ◌-◌, ◌==◌, ◌&&◌, Bool, true, false, if◌then◌else◌, List, [], ◌∷◌, ◌++◌, length, Option, Some, None, Result, Ok, Err, IsOk, replicate, slice_get, slice_index_or, slice_set, nat_lt}
+use Rattle.std.specs.Prelude.{◌≡◌, ℕ, ◌+◌, ◌-◌, ◌==◌, ◌&&◌, Bool, if◌then◌else◌, List, [], ◌∷◌, ◌++◌, length, Option, Some, None, Result, Ok, Err, IsOk, replicate, slice_get, slice_index_or, slice_set, nat_lt}
 use Rattle.faust_types.specs.declared.message.Reply.{Reply}
 use Rattle.faust_types.specs.declared.message.Message.{Message}
 use Rattle.faust_types.specs.declared.message.Message.TheVariants as messages

@@ -1,5 +1,5 @@
 -- What the liar keeps of a client, in messages: its promises say what becomes of this, wherever the messages lie.
-use Rattle.std.specs.Prelude.{◌≡◌, ℕ, List, Option, Some, None, IsNone, IsSome, Result, Ok, Err}
+use Rattle.std.specs.Prelude.{◌≡◌, ℕ, List, Option, Some, IsNone, IsSome, Result, Ok, Err}
 use Rattle.faust_types.specs.declared.message.Message.{Message}
 use Rattle.faust_liar.specs.declared.error.LiarError.{LiarError}
 use Rattle.faust_liar.specs.declared.error.LiarError.TheVariants as errors

@@ -1,5 +1,5 @@
 -- A message that is kept as its bytes. No promise rests on it: callers see the message.
-use Rattle.std.specs.Prelude.{◌≡◌, ℕ, List, Option, Some, None}
+use Rattle.std.specs.Prelude.{ℕ, List, Option, Some, None}
 use Rattle.faust_types.specs.Clients.{IsClientCount}
 use Rattle.faust_types.specs.Ranges.{IsWire}
 use Rattle.faust_types.specs.declared.message.Message.{Message}

@@ -1,5 +1,5 @@
 -- What one entry of a client changes: an operation begins, the pending one completes, or neither.
-use Rattle.std.proofs.Common.{◌≡◌, ℕ, ◌+◌, ◌-◌, ◌^◌, ◌<◌, Bool, true, false, cond, Option, Some, None, IfSome, refl, sym, ap, ◌∙◌, subst, arith}
+use Rattle.std.proofs.Common.{◌≡◌, ℕ, ◌+◌, ◌^◌, ◌<◌, Bool, true, false, cond, Option, Some, None, IfSome, refl, sym, ap, ◌∙◌, subst, arith}
 use Rattle.std.proofs.lemmas.Bool.{cond-true}
 use Rattle.faust_types.specs.Clients.{IsClient, IsClientCount}
 use Rattle.faust_types.specs.Ranges.{IsReplyFor, IsValue}
@@ -10,14 +10,13 @@ use Rattle.faust_types.specs.declared.operation.Kind.TheVariants.{Write, Read}
 use Rattle.faust_types.specs.declared.operation.Answer.{Answer}
 use Rattle.faust_types.specs.declared.operation.Operation.{Operation}
 use Rattle.faust_types.specs.declared.message.ReadPart.{ReadPart}
-use Rattle.faust_types.specs.declared.message.Reply.{Reply}
 use Rattle.faust_ustor.specs.Checks.{is_part_for}
 use Rattle.faust_ustor.specs.Passed.{next_of, told_of}
 use Rattle.faust_ustor.specs.declared.judgement.Judged.{Judged}
 use Rattle.faust_ustor.proofs.Counts.{next-told, timestamp-next_own}
 use Rattle.faust_ustor.proofs.Passes.{JudgedOk, judged-passed}
 use Rattle.faust_agent.specs.State.{completed_count, version_at}
-use Rattle.faust_agent.specs.Deeds.{Event, asked, passed, read_of, write_of}
+use Rattle.faust_agent.specs.Deeds.{Event, asked, read_of, write_of}
 use Rattle.faust_agent.specs.InRange.{IsClientOf, IsDeedFor, IsWaitedFor}
 use Rattle.faust_agent.specs.Table.{after, answer_of, completed_by, dummy_of, is_dummy_due, operation_of, ticked_by}
 use Rattle.faust_agent.specs.Tells.{IsEventFor, Tells}

@@ -1,5 +1,5 @@
 -- What events make of a scene: refusals and their causes, entries, arrivals, and what the liar hands out.
-use Rattle.std.proofs.Common.{◌≡◌, ◌+◌, ◌-◌, ◌≤◌, ℕ, zero, suc, List, [], ◌∷◌, ◌++◌, length, Option, Some, None, Result, Ok, Err, refl, sym, ap, ◌∙◌, subst, arith, length-append}
+use Rattle.std.proofs.Common.{◌≡◌, ◌-◌, ℕ, List, length, Option, Some, None, Result, Ok, Err, refl, sym, ap, ◌∙◌, subst}
 use Rattle.std.specs.Prelude.{IfSome, option_and_then, slice_get}
 use Rattle.std.proofs.lemmas.Option.{none-some}
 use Rattle.faust_text.specs.Fields.{Fails, ◌>>=◌}
@@ -7,7 +7,6 @@ use Rattle.faust_text.specs.declared.cause.Cause.{Cause}
 use Rattle.faust_text.specs.declared.cause.Cause.TheVariants as causes
 use Rattle.faust_text.specs.declared.error.LineError.{LineError}
 use Rattle.faust_text.specs.declared.error.LineError.TheVariants as line_errors
-use Rattle.faust_types.specs.Clients.{IsClient}
 use Rattle.faust_types.specs.declared.config.Config.{Config}
 use Rattle.faust_types.specs.declared.message.Commit.{Commit}
 use Rattle.faust_types.specs.declared.message.Submit.{Submit}
@@ -16,7 +15,7 @@ use Rattle.faust_agent.specs.Deeds.{Sent, commits, submits}
 use Rattle.faust_agent.specs.InRange.{IsSentFor}
 use Rattle.faust_agent.specs.Outcomes.{sent_bytes}
 use Rattle.faust_record.specs.Entries.{arrival_at}
-use Rattle.faust_record.specs.Runs.{IsRun, Run, arriving, next_message}
+use Rattle.faust_record.specs.Runs.{Run, next_message}
 use Rattle.faust_record.specs.Refusals.{PushRefuses, arrived_at, arrived as arrived_of, push_of, recorded}
 use Rattle.faust_record.specs.declared.entry.Entry.{Entry}
 use Rattle.faust_record.specs.declared.errors.PushError.{PushError}
@@ -27,7 +26,7 @@ use Rattle.faust_record.proofs.Fronts.{push_appends, push_keeps}
 use Rattle.faust_script.specs.declared.event.Event.{Event}
 use Rattle.faust_script.specs.declared.event.Event.TheVariants as event
 use Rattle.faust_liar.specs.InRange.{IsArrival, IsBehind as IsBehindSubmit, IsFor}
-use Rattle.faust_liar.specs.Lies.{Handed, Hands, LiarState, Refuses, again_due, arrived, branched, echoed, edited_due, next_due, routed, session_count}
+use Rattle.faust_liar.specs.Lies.{Handed, Hands, LiarState, Refuses, again_due, branched, echoed, edited_due, next_due, routed, session_count}
 use Rattle.faust_liar.specs.declared.error.LiarError.{LiarError}
 use Rattle.faust_liar.specs.declared.error.LiarError.TheVariants as lies
 use Rattle.faust_sim.specs.Kept.{IsMailBefore, IsMailOf, arrival_of, last_arrival}
@@ -37,7 +36,6 @@ use Rattle.faust_sim.specs.Mail.{mailed}
 use Rattle.faust_sim.specs.Sent.{IsBehind, IsSentBy, RidesInOrder}
 use Rattle.faust_sim.specs.declared.letters.Place.{Place}
 use Rattle.faust_sim.proofs.Places.{last-item}
-use Rattle.faust_sim.proofs.Sendings.{due_sent}
 
 -- what is refused, with its cause
 pub push-refused : (e : PushError) (old new : Run) (due : Result Run PushError) (liar : LiarState) → PushRefuses e old new due

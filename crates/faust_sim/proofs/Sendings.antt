@@ -1,11 +1,11 @@
 -- What the clients of a run send: by the deeds of its entries, each message is in range, and a COMMIT that rides on a
 -- SUBMIT is that of the operation before.
-use Rattle.std.proofs.Common.{◌≡◌, ◌+◌, ◌-◌, ◌==◌, ◌&&◌, ℕ, suc, zero, Bool, true, false, not, cond, is_none, Option, Some, None, List, [], ◌∷◌, ◌++◌, length, map, option_to_list, refl, sym, ap, ◌∙◌, subst, arith}
-use Rattle.std.specs.Prelude.{IfSome, IsNone, nat_le, slice_get, slice_set}
+use Rattle.std.proofs.Common.{◌≡◌, ◌+◌, ◌-◌, ◌==◌, ◌&&◌, ℕ, suc, zero, not, is_none, Option, Some, None, List, [], ◌∷◌, ◌++◌, length, map, option_to_list, refl, sym, ap, ◌∙◌, subst}
+use Rattle.std.specs.Prelude.{IfSome, IsNone, slice_get}
 use Rattle.std.specs.List.{AllByRecursion}
 use Rattle.std.proofs.lemmas.Bool.{and_parts, eqb-true}
 use Rattle.std.proofs.lemmas.Option.{IfSome_then}
-use Rattle.faust_types.specs.Clients.{IsClient, IsClientCount}
+use Rattle.faust_types.specs.Clients.{IsClient}
 use Rattle.faust_types.specs.Ranges.{IsConfig, IsPeerMessageFor}
 use Rattle.faust_types.specs.Versions.{Vector, timestamp_at}
 use Rattle.faust_types.specs.declared.config.Config.{Config}
@@ -13,10 +13,9 @@ use Rattle.faust_types.specs.declared.message.Commit.{Commit}
 use Rattle.faust_types.specs.declared.message.Known.{Known}
 use Rattle.faust_types.specs.declared.message.PeerMessage.{PeerMessage}
 use Rattle.faust_types.specs.declared.outcome.Outcome.{Outcome}
-use Rattle.faust_types.specs.declared.outcome.Post.{Post}
-use Rattle.faust_agent.specs.State.{completed_count, first_client, is_less, slot_at, slot_in, version_at}
+use Rattle.faust_agent.specs.State.{completed_count, first_client, is_less, version_at}
 use Rattle.faust_agent.specs.Deeds.{Event, Sent, commits, submits}
-use Rattle.faust_agent.specs.Table.{after, begun_by, commit_held, commit_of, commit_sent, committed_alone, deed_of, dummy_of, held_after, heard_by, is_dummy_due, moved_on, own_tag, posts_of, raised, released, sent_of, submit_of, timers_after, with_news, with_read, with_slot}
+use Rattle.faust_agent.specs.Table.{after, begun_by, commit_of, committed_alone, deed_of, dummy_of, held_after, is_dummy_due, moved_on, own_tag, posts_of, raised, released, sent_of, submit_of, timers_after, with_news, with_read, with_slot}
 use Rattle.faust_agent.specs.InRange.{IsClientOf, IsDeedFor, IsSentFor}
 use Rattle.faust_agent.specs.Outcomes.{outcome_of, spelled_post, spelled_sent}
 use Rattle.faust_agent.specs.Tells.{IsEventFor}

@@ -1,6 +1,6 @@
 -- How the code finds a message between clients: by the entry that sent it, and its place among what that entry sent.
 -- It helps proofs.
-use Rattle.std.specs.Prelude.{◌≡◌, ◌==◌, ◌-◌, ℕ, suc, cond, List, [], ◌∷◌, ◌++◌, length, Option, Some, None, option_and_then, option_map, slice_get, slice_index_or, slice_set}
+use Rattle.std.specs.Prelude.{◌≡◌, ◌==◌, ◌-◌, ℕ, suc, cond, List, [], ◌∷◌, ◌++◌, length, Option, option_and_then, option_map, slice_get, slice_index_or, slice_set}
 use Rattle.std.specs.List.{AllByRecursion}
 use Rattle.faust_types.specs.Clients.{IsClient}
 use Rattle.faust_types.specs.declared.outcome.Post.{Post}

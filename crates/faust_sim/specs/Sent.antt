@@ -2,7 +2,6 @@
 -- was sent. The law on arrivals is stated in these words; no promise of a call rests on them.
 use Rattle.std.specs.Prelude.{◌≡◌, ◌+◌, ℕ, List, IfSome}
 use Rattle.std.specs.List.{AllByRecursion}
-use Rattle.faust_types.specs.Clients.{IsClient}
 use Rattle.faust_types.specs.Versions.{timestamp_at}
 use Rattle.faust_types.specs.Ranges.{IsPeerMessageFor}
 use Rattle.faust_types.specs.declared.config.Config.{Config}

@@ -1,14 +1,14 @@
 -- Lines whose bytes come piece by piece.
-use Rattle.std.proofs.Common.{◌≡◌, ℕ, ◌+◌, ◌-◌, ◌<◌, ◌≤◌, true, false, cond, ltb, eqb, List, [], ◌∷◌, ◌++◌, length, take, drop, slice_range, length-drop, Result, Ok, Err, IfOk, ◌^◌, refl, sym, ap, ◌∙◌, subst, inl, inr, arith, append_assoc}
+use Rattle.std.proofs.Common.{◌≡◌, ℕ, ◌+◌, ◌-◌, ◌<◌, ◌≤◌, true, false, cond, ltb, eqb, List, [], ◌∷◌, ◌++◌, length, drop, length-drop, Result, Ok, Err, IfOk, ◌^◌, refl, sym, ap, ◌∙◌, subst, arith, append_assoc}
 use Rattle.std.specs.List.{flat_map}
-use Rattle.std.proofs.lemmas.Bool.{cond-true, cond-false, false≢true, lt-ltb}
+use Rattle.std.proofs.lemmas.Bool.{cond-false, false≢true, lt-ltb}
 use Rattle.std.proofs.lemmas.List.{length-append, length-take-le, append-nil}
 use Rattle.faust_text.specs.declared.cause.Cause.TheVariants as causes
 use Rattle.faust_text.specs.declared.error.LineError.{LineError}
 use Rattle.faust_text.specs.declared.error.LineError.TheVariants as line_errors
 use Rattle.faust_text.specs.declared.line.Line.{Line}
 use Rattle.faust_text.specs.Fields.{Fails}
-use Rattle.faust_text.specs.Lines.{AreInOrder, AreLines, BeginsAt, IsLineAt, IsWithout, TextLine, begun, line_in, lines_of, whole}
+use Rattle.faust_text.specs.Lines.{AreInOrder, AreLines, BeginsAt, IsWithout, TextLine, begun, line_in, lines_of, whole}
 use Rattle.faust_text.proofs.LineLaws.{lines_are}
 use Rattle.faust_record.specs.Runs.{Run}
 use Rattle.faust_store.specs.declared.error.StoreError.{StoreError}

@@ -1,6 +1,6 @@
 -- Reading a record whose bytes come piece by piece: what was fed so far answers, with whatever follows, what the whole
 -- record answers.
-use Rattle.std.specs.Prelude.{◌≡◌, ℕ, ◌+◌, ◌^◌, ◌<◌, ◌≤◌, List, [], ◌∷◌, ◌++◌, length, drop, Option, Some, None, Result, Ok, Err}
+use Rattle.std.specs.Prelude.{◌≡◌, ℕ, ◌+◌, ◌^◌, ◌<◌, ◌≤◌, List, ◌∷◌, ◌++◌, length, drop, Option, Some, None, Result, Ok, Err}
 use Rattle.faust_text.specs.declared.cause.Cause.TheVariants as causes
 use Rattle.faust_text.specs.declared.line.Line.{Line}
 use Rattle.faust_text.specs.Lines.{IsWithout, line_in, lines_of}

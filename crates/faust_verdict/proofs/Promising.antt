@@ -1,7 +1,7 @@
 -- What is promised of a run holds of it.
-use Rattle.std.proofs.Common.{◌≡◌, ℕ, List, [], Option, None, Some, refl, subst, append-nil}
+use Rattle.std.proofs.Common.{◌≡◌, List, [], Option, None, Some, refl, subst, append-nil}
 use Rattle.faust_record.specs.Runs.{IsRun, Run}
-use Rattle.faust_premises.specs.Premises.{Collision, Forgery, IsClean, Verdict, clean, first_collision, first_forged, premises_of, verdict_of}
+use Rattle.faust_premises.specs.Premises.{Collision, Forgery, IsClean, clean, first_collision, first_forged, premises_of, verdict_of}
 use Rattle.faust_record.specs.declared.entry.Entry.{Entry}
 use Rattle.faust_runs.proofs.Claims.{run-views}
 use Rattle.faust_held.proofs.Claims.{announced-right}

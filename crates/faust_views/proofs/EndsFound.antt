@@ -1,5 +1,5 @@
 -- The ends of a tree and the fork views: the end that is found for a name is that of the fork view that is found for it.
-use Rattle.std.proofs.Common.{◌≡◌, ◌==◌, ℕ, suc, ◌+◌, ◌-◌, ◌<◌, ◌≤◌, cond, Bool, true, false, List, [], ◌∷◌, ◌++◌, Option, Some, None, length, get_or, take, refl, sym, ap, ◌∙◌, subst, append_assoc, length-append, arith}
+use Rattle.std.proofs.Common.{◌≡◌, ◌==◌, ℕ, suc, ◌+◌, ◌-◌, ◌<◌, ◌≤◌, cond, Bool, true, false, List, [], ◌∷◌, ◌++◌, Option, Some, None, length, get_or, take, refl, sym, ap, ◌∙◌, subst, append_assoc, arith}
 use Rattle.std.proofs.lemmas.Bool.{eq-eqb, ne_eqb}
 use Rattle.std.proofs.lemmas.List.{take_more}
 use Rattle.faust_types.specs.declared.operation.OpName.{OpName}
@@ -10,7 +10,7 @@ use Rattle.faust_names.specs.Histories.{named}
 use Rattle.faust_record.specs.Operations.{is_named}
 use Rattle.faust_tree.specs.Trees.{IsUnder, path_of, path_under}
 use Rattle.faust_tree.specs.declared.node.Node.{Node}
-use Rattle.faust_runs.specs.ForkViews.{ForkView, base_names, found_view, last_view, names_by, names_of, names_on, view_by}
+use Rattle.faust_runs.specs.ForkViews.{ForkView, base_names, found_view, last_view, names_of, names_on, view_by}
 use Rattle.faust_views.specs.Forks.{AreEnds, IsEnd}
 use Rattle.faust_views.specs.Forests.{found_end, last_end}
 use Rattle.faust_views.specs.Grown.{Extends, base_at}

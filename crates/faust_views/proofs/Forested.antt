@@ -19,7 +19,7 @@ use Rattle.faust_views.specs.Keys.{key_of, key_order}
 use Rattle.faust_views.specs.declared.forest.Forest.{Forest}
 use Rattle.faust_views.specs.declared.key.Key.{Key}
 use Rattle.faust_views.proofs.EndsFound.{ends-grown, found-push}
-use Rattle.faust_views.proofs.Growing.{added, extends-one}
+use Rattle.faust_views.proofs.Growing.{extends-one}
 use Rattle.faust_views.proofs.Keyed.{key-is}
 use Rattle.faust_views.proofs.Noting.{take-at}
 use Rattle.faust_views.proofs.Numbered.{length-names}

@@ -1,5 +1,5 @@
 -- The kinds of operations, noted entry by entry.
-use Rattle.std.proofs.Common.{◌≡◌, ◌==◌, ℕ, zero, suc, ◌+◌, ◌-◌, ◌<◌, ◌≤◌, ◌≢◌, cond, Bool, true, false, List, [], ◌∷◌, ◌++◌, Option, Some, None, length, get_or, take, set, map, option_map, option_to_list, refl, sym, ap, ◌∙◌, subst, inl, inr, get_or-set_other, get_or-set_same, length-set, append_assoc, arith}
+use Rattle.std.proofs.Common.{◌≡◌, ℕ, zero, suc, ◌+◌, ◌-◌, ◌<◌, ◌≢◌, Bool, List, [], ◌∷◌, ◌++◌, Option, Some, None, length, get_or, take, map, option_map, option_to_list, refl, sym, ap, ◌∙◌, subst, inl, inr, get_or-set_other, get_or-set_same, length-set, append_assoc}
 use Rattle.std.specs.List.{slice_get}
 use Rattle.std.proofs.lemmas.List.{append-nil, map-append, take_more}
 use Rattle.std.proofs.lemmas.Bool.{cases_eq}

@@ -1,5 +1,5 @@
 -- The names of tuples, counted on one by one.
-use Rattle.std.proofs.Common.{◌≡◌, ◌==◌, ◌⊎◌, ℕ, zero, suc, ◌+◌, ◌<◌, ◌≤◌, ◌≢◌, cond, Bool, true, false, List, [], ◌∷◌, ◌++◌, length, get_or, take, set, inl, inr, replicate, ◌^◌, refl, sym, ap, ◌∙◌, subst, get_or-set_other, get_or-set_same, length-set, arith}
+use Rattle.std.proofs.Common.{◌≡◌, ◌==◌, ℕ, suc, ◌+◌, ◌<◌, ◌≤◌, cond, Bool, true, false, List, [], ◌∷◌, ◌++◌, length, get_or, take, set, inl, inr, replicate, ◌^◌, refl, sym, ap, ◌∙◌, subst, get_or-set_other, get_or-set_same, length-set, arith}
 use Rattle.std.proofs.lemmas.List.{get_or-replicate, length-take-le, take_more}
 use Rattle.std.proofs.lemmas.Bool.{cases_eq, eq-eqb, ne_eqb}
 use Rattle.faust_types.specs.Versions.{Vector, timestamp_at}

@@ -1,5 +1,5 @@
 -- Which operations of a record are writes, as it is noted entry by entry. It helps proofs.
-use Rattle.std.specs.Prelude.{◌≡◌, ℕ, ◌-◌, ◌==◌, ◌||◌, Bool, true, false, List, [], ◌∷◌, ◌++◌, Option, Some, None, map, option_map, slice_get, slice_index_or, slice_set}
+use Rattle.std.specs.Prelude.{◌≡◌, ℕ, ◌-◌, ◌==◌, ◌||◌, Bool, false, List, [], ◌∷◌, ◌++◌, Option, Some, None, map, option_map, slice_get, slice_index_or, slice_set}
 use Rattle.faust_types.specs.declared.operation.OpName.{OpName}
 use Rattle.faust_names.specs.ForkViews.{is_writing}
 use Rattle.faust_record.specs.Operations.{Started, started_among, started_in}

@@ -1,4 +1,4 @@
-use Rattle.std.proofs.Common.{◌≡◌, ℕ, List, map, Option, None, Some, IfNone, IfSome, Err, refl, sym, subst}
+use Rattle.std.proofs.Common.{ℕ, List, map, Option, IfNone, IfSome, Err, refl, subst}
 use Rattle.std.specs.Prelude.{string_bytes}
 use Rattle.faust_outcome.specs.Words.{IsForm, IsNoForm}
 use Rattle.faust_outcome.specs.declared.gathered.Gathered.{Gathered}

@@ -1,4 +1,4 @@
-use Rattle.std.proofs.Common.{◌≡◌, ℕ, List, Option, None, IsNone, refl, sym, subst, ◌∙◌}
+use Rattle.std.proofs.Common.{◌≡◌, ℕ, List, Option, None, IsNone, refl, sym, subst}
 use Rattle.faust_types.specs.Ranges.{IsSubmitFor}
 use Rattle.faust_types.specs.declared.message.Commit.{Commit}
 use Rattle.faust_types.specs.declared.message.Submit.{Submit}

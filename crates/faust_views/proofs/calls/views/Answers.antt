@@ -1,4 +1,4 @@
-use Rattle.std.proofs.Common.{◌≡◌, ◌≤◌, ◌∙◌, ap, arith}
+use Rattle.std.proofs.Common.{◌≡◌, ◌∙◌, ap, arith}
 use Rattle.faust_types.specs.declared.config.Config.{Config}
 use Rattle.faust_views.specs.Forks.{AreViews}
 use Rattle.faust_views.proofs.Linear.{views-linear}

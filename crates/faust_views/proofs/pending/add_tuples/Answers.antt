@@ -1,8 +1,7 @@
-use Rattle.std.proofs.Common.{◌≡◌, ◌<◌, ◌≤◌, List, [], Some, length, get_or, take, sym, subst, arith}
+use Rattle.std.proofs.Common.{◌<◌, List, [], Some, get_or, take, sym, subst, arith}
 use Rattle.faust_types.specs.declared.operation.OpName.{OpName}
 use Rattle.faust_types.specs.declared.operation.Kind.TheVariants.{Write}
 use Rattle.faust_types.specs.declared.message.Tuple.{Tuple}
-use Rattle.faust_tree.specs.Trees.{path_of}
 use Rattle.faust_runs.specs.ForkViews.{names_on}
 use Rattle.faust_views.specs.Grown.{Extends}
 use Rattle.faust_views.proofs.Growing.{extends-none, extends-one}

@@ -1,5 +1,4 @@
-use Rattle.std.proofs.Common.{◌≡◌, ◌+◌, ◌<◌, ℕ, List, [], length, drop, ◌∙◌, subst, arith}
-use Rattle.faust_types.specs.declared.outcome.Post.{Post}
+use Rattle.std.proofs.Common.{◌+◌, ◌<◌, ℕ, length, drop, ◌∙◌, subst, arith}
 use Rattle.faust_sim.specs.Kept.{AreToClients, place_at}
 use Rattle.faust_sim.proofs.Places.{blank-post, note-client, note-sized, note-step}
 use Rattle.faust_sim.proofs.letters.Letters.note.Goals as goal

@@ -1,5 +1,5 @@
-use Rattle.std.proofs.Common.{◌≡◌, ◌-◌, ℕ, List, Option, Some, None, get_or, sym, ap, ◌∙◌, subst}
-use Rattle.std.specs.Prelude.{option_and_then, slice_get}
+use Rattle.std.proofs.Common.{◌≡◌, ◌-◌, ℕ, List, Option, get_or, sym, ap, ◌∙◌, subst}
+use Rattle.std.specs.Prelude.{option_and_then}
 use Rattle.faust_sim.specs.Kept.{IsMailOf, letter_at}
 use Rattle.faust_sim.specs.declared.letters.Place.{Place}
 use Rattle.faust_sim.proofs.Places.{letter-read}

@@ -1,4 +1,4 @@
-use Rattle.std.proofs.Common.{◌≡◌, ℕ, sym, subst}
+use Rattle.std.proofs.Common.{ℕ, sym, subst}
 use Rattle.faust_types.specs.Clients.{IsClient}
 use Rattle.faust_liar.specs.Lies.{again_due}
 use Rattle.faust_sim.proofs.Sized.{again-sized, handed-sized}

@@ -1,9 +1,8 @@
-use Rattle.std.proofs.Common.{◌≡◌, ℕ, List, Option, Some, Ok, refl, sym, ap, ◌∙◌, subst}
+use Rattle.std.proofs.Common.{◌≡◌, ℕ, List, Ok, refl, sym, ap, ◌∙◌, subst}
 use Rattle.std.proofs.lemmas.Result.{err_from_is_err_and}
 use Rattle.faust_record.specs.Runs.{next_message}
 use Rattle.faust_liar.specs.InRange.{IsArrival}
 use Rattle.faust_liar.specs.Lies.{LiarState, arrived, session_count}
-use Rattle.faust_sim.specs.Play.{Scene}
 use Rattle.faust_sim.specs.Playing.{IsLiarOf, scene_of}
 use Rattle.faust_sim.proofs.Scenes.{arrival-fits, arrival-next, arrival-refused, liar-stays, message-arrived, no-arrival, scene-pushed}
 use Rattle.faust_sim.proofs.Sendings.{due_sent}

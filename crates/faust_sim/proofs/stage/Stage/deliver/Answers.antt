@@ -1,4 +1,4 @@
-use Rattle.std.proofs.Common.{◌≡◌, ◌-◌, ◌≤◌, List, ℕ, length, sym, subst}
+use Rattle.std.proofs.Common.{◌-◌, ◌≤◌, List, ℕ, length, sym, subst}
 use Rattle.faust_sim.proofs.Sized.{letter-sized}
 use Rattle.faust_sim.proofs.stage.Stage.deliver.Goals as goal
 

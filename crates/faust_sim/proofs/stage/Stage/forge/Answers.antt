@@ -1,4 +1,4 @@
-use Rattle.std.proofs.Common.{◌≡◌, ℕ, Some, sym, subst}
+use Rattle.std.proofs.Common.{ℕ, Some, sym, subst}
 use Rattle.faust_types.specs.Clients.{IsClient}
 use Rattle.faust_script.specs.InRange.{IsEditFor}
 use Rattle.faust_liar.specs.Lies.{edited_due}

@@ -1,4 +1,4 @@
-use Rattle.std.proofs.Common.{◌≡◌, sym, subst}
+use Rattle.std.proofs.Common.{sym, subst}
 use Rattle.faust_types.specs.declared.config.Config.{Config}
 use Rattle.faust_record.proofs.Fronts.{push_keeps}
 use Rattle.faust_sim.specs.Playing.{IsLiarOf}

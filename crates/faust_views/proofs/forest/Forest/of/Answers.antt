@@ -1,4 +1,4 @@
-use Rattle.std.proofs.Common.{◌+◌, List, [], ◌≤◌, take, sym, subst, arith}
+use Rattle.std.proofs.Common.{List, [], take, sym, subst, arith}
 use Rattle.faust_runs.specs.ForkViews.{ForkView, fork_views}
 use Rattle.faust_views.specs.Forests.{IsForest}
 use Rattle.faust_views.proofs.EndsFound.{ends-count}
